@@ -1,0 +1,113 @@
+// A command to events: what a play prints for each line.
+use text::event::Answer;
+use script::Command;
+use text::event::Event;
+use script::Limits;
+use script::read_command;
+use text::print::push_answer;
+use text::print::push_event;
+use std::alloc::Global;
+use std::fmt::Write;
+use std::io;
+use std::str::from_utf8;
+
+// A cluster that is played.
+#[derive(Drop)]
+pub struct Play {
+    heap: Global,
+    replicas: u64,
+}
+
+impl Play {
+    // Nothing is open at first.
+    pub fn new(heap: Global) -> Play {
+        Play { heap, replicas: 0 }
+    }
+
+    // Plays the line with this number, from 0; what it prints is added to `out`.
+    pub fn line(&mut self, number: u64, line: &[u8], out: &mut String) -> io::Result<()> {
+        if let [] | [b'#', ..] = line {
+            return Ok(());
+        }
+        if let Ok(text) = from_utf8(line) {
+            if let Some(command) = read_command(self.heap, text)? {
+                return self.command(text, command, out);
+            }
+        }
+        writeln!(out, "line {number} -> refused 1 {number}")?;
+        Ok(())
+    }
+
+    fn command(&mut self, text: &str, command: Command, out: &mut String) -> io::Result<()> {
+        match command {
+            Command::Open { limits } => self.open(text, limits, out),
+            Command::At { replica, event } => {
+                out.push_str(text)?;
+                push_outcome(out, &self.happens(replica, &event))
+            }
+            Command::Asks { asker, asked } => {
+                if asker < self.replicas && asked < self.replicas && asker != asked {
+                    return self.ask(asker, asked, out);
+                }
+                push_refused(out, text)
+            }
+            Command::Round => self.round(out),
+            Command::Bytes { .. } | Command::From { .. } => push_refused(out, text),
+        }
+    }
+
+    // Opens anew, or leaves what is open where the limits are out of range.
+    fn open(&mut self, text: &str, limits: Limits, out: &mut String) -> io::Result<()> {
+        if !limits.in_range() {
+            return push_refused(out, text);
+        }
+        self.replicas = limits.replicas;
+        writeln!(out, "{text} -> opened")?;
+        Ok(())
+    }
+
+    // An event at a replica. No event is supported yet.
+    fn happens(&mut self, _replica: u64, _event: &Event) -> Answer {
+        Answer::Refused {
+            number: 2,
+            place: 0,
+        }
+    }
+
+    // One exchange: the asker tells its clock.
+    fn ask(&mut self, asker: u64, _asked: u64, out: &mut String) -> io::Result<()> {
+        push_event(out, asker, &Event::Tell)?;
+        push_outcome(out, &self.happens(asker, &Event::Tell))
+    }
+
+    // Each replica asks each other one.
+    fn round(&mut self, out: &mut String) -> io::Result<()> {
+        let replicas = self.replicas;
+        for asker in 0..replicas {
+            for asked in 0..replicas {
+                if asker != asked {
+                    self.ask(asker, asked, out)?;
+                }
+            }
+        }
+        Ok(())
+    }
+}
+
+fn push_outcome(out: &mut String, answer: &Answer) -> io::Result<()> {
+    out.push_str(" -> ")?;
+    push_answer(out, answer)?;
+    out.push('\n')?;
+    Ok(())
+}
+
+fn push_refused(out: &mut String, text: &str) -> io::Result<()> {
+    out.push_str(text)?;
+    push_outcome(
+        out,
+        &Answer::Refused {
+            number: 2,
+            place: 0,
+        },
+    )
+}

@@ -1,0 +1,2 @@
+mod Prints
+mod Puts
