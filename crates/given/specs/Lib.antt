@@ -1,0 +1,4 @@
+pub mod Replica
+pub mod Cluster
+pub mod Statements
+pub mod Translation

@@ -1,0 +1,13 @@
+pub mod Lists
+pub mod Limits
+pub mod Clock
+pub mod Put
+pub mod Delivery
+pub mod Store
+pub mod Replica
+pub mod Cluster
+pub mod Convergence
+pub mod Program
+pub mod Theorems
+pub mod Example
+pub mod Instances
