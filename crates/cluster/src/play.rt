@@ -1,15 +1,16 @@
 // A command to events: what a play prints for each line.
-use text::event::Answer;
 use script::Command;
-use text::event::Event;
+use script::Deed;
 use script::Limits;
 use script::read_command;
-use text::print::push_answer;
-use text::print::push_event;
 use std::alloc::Global;
 use std::fmt::Write;
 use std::io;
 use std::str::from_utf8;
+use text::event::Answer;
+use text::event::Event;
+use text::print::push_answer;
+use text::print::push_event;
 
 // A cluster that is played.
 #[derive(Drop)]
@@ -41,18 +42,24 @@ impl Play {
     fn command(&mut self, text: &str, command: Command, out: &mut String) -> io::Result<()> {
         match command {
             Command::Open { limits } => self.open(text, limits, out),
-            Command::At { replica, event } => {
+            Command::At { replica, deed } => self.deed(text, replica, deed, out),
+            Command::Round => self.round(out),
+        }
+    }
+
+    fn deed(&mut self, text: &str, replica: u64, deed: Deed, out: &mut String) -> io::Result<()> {
+        match deed {
+            Deed::Event { event } => {
                 out.push_str(text)?;
                 push_outcome(out, &self.happens(replica, &event))
             }
-            Command::Asks { asker, asked } => {
-                if asker < self.replicas && asked < self.replicas && asker != asked {
-                    return self.ask(asker, asked, out);
+            Deed::Asks { asked } => {
+                if replica < self.replicas && asked < self.replicas && replica != asked {
+                    return self.ask(replica, asked, out);
                 }
                 push_refused(out, text)
             }
-            Command::Round => self.round(out),
-            Command::Bytes { .. } | Command::From { .. } => push_refused(out, text),
+            Deed::Bytes { .. } | Deed::From { .. } => push_refused(out, text),
         }
     }
 

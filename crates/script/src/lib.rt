@@ -1,11 +1,15 @@
 // A line of a script to a command.
+ghost use Rattle.script.specs.Commands.{Can-command, Can-deed, Can-limits, command-text, deed-words, good-limits, limits-text};
+ghost use Rattle.std.specs.Vec.{made};
+ghost use Rattle.words.specs.Text.{Reads};
+ghost use mathlib.Core.Path.{_≡_};
+
 mod read;
 
-ghost use Rattle.script.specs.Range.{good-limits};
-ghost use mathlib.Core.Path.{_≡_};
+use read::read_event;
+use read::read_two;
 use std::alloc::AllocError;
 use std::alloc::Global;
-use read::read_event;
 use text::event::Event;
 use words::number;
 use words::numbers;
@@ -32,19 +36,27 @@ impl Limits {
     }
 }
 
+// What is done at a replica: an event, given whole, by its bytes, or by the put that comes; or it asks another.
+#[derive(Drop)]
+pub enum Deed {
+    Event { event: Event },
+    Bytes { bytes: Vec<u8> },
+    From { maker: u64, number: u64 },
+    Asks { asked: u64 },
+}
+
 // A line of a script.
 #[derive(Drop)]
 pub enum Command {
     Open { limits: Limits },
-    At { replica: u64, event: Event },
-    Bytes { replica: u64, bytes: Vec<u8> },
-    From { replica: u64, maker: u64, number: u64 },
-    Asks { asker: u64, asked: u64 },
+    At { replica: u64, deed: Deed },
     Round,
 }
 
 // The command that a line is, or none where it cannot be read.
-pub fn read_command(heap: Global, line: &str) -> Result<Option<Command>, AllocError> {
+pub fn read_command(heap: Global, line: &str) -> Result<Option<Command>, AllocError>
+    ensures { λ r. ⌜ made r (λ o. Reads command-text Can-command (now (line .entry)) o) ⌝ }
+{
     if line == "round" {
         return Ok(Some(Command::Round));
     }
@@ -52,72 +64,64 @@ pub fn read_command(heap: Global, line: &str) -> Result<Option<Command>, AllocEr
         return Ok(None);
     };
     if first == "open" {
-        return read_open(heap, rest);
+        let Some(limits) = read_limits(heap, rest)? else {
+            return Ok(None);
+        };
+        return Ok(Some(Command::Open { limits }));
     }
     let Some(replica) = number(first) else {
         return Ok(None);
     };
-    if let Some((verb, rest)) = rest.split_once(' ') {
-        return match verb {
-            "bytes" => read_bytes(heap, replica, rest),
-            "from" => read_from(heap, replica, rest),
-            "asks" => Ok(read_asks(replica, rest)),
-            _ => Ok(at(replica, read_event(heap, verb, rest)?)),
-        };
-    }
-    if rest == "tell" {
-        return Ok(at(replica, Some(Event::Tell)));
-    }
-    Ok(None)
+    let Some(deed) = read_deed(heap, rest)? else {
+        return Ok(None);
+    };
+    Ok(Some(Command::At { replica, deed }))
 }
 
-fn at(replica: u64, event: Option<Event>) -> Option<Command> {
-    match event {
-        Some(event) => Some(Command::At { replica, event }),
-        None => None,
-    }
-}
-
-fn read_open(heap: Global, text: &str) -> Result<Option<Command>, AllocError> {
+fn read_limits(heap: Global, text: &str) -> Result<Option<Limits>, AllocError>
+    ensures { λ r. ⌜ made r (λ o. Reads limits-text Can-limits (now (text .entry)) o) ⌝ }
+{
     let Some(all) = numbers(heap, text)? else {
         return Ok(None);
     };
-    let [replicas, keys, log, waiting] = all.as_slice() else {
+    if all.len() != 4 {
         return Ok(None);
-    };
-    let limits = Limits {
-        replicas: *replicas,
-        keys: *keys,
-        log: *log,
-        waiting: *waiting,
-    };
-    Ok(Some(Command::Open { limits }))
-}
-
-fn read_bytes(heap: Global, replica: u64, text: &str) -> Result<Option<Command>, AllocError> {
-    match value(heap, text)? {
-        Some(bytes) => Ok(Some(Command::Bytes { replica, bytes })),
-        None => Ok(None),
     }
-}
-
-fn read_from(heap: Global, replica: u64, text: &str) -> Result<Option<Command>, AllocError> {
-    let Some(all) = numbers(heap, text)? else {
-        return Ok(None);
-    };
-    let [maker, number] = all.as_slice() else {
-        return Ok(None);
-    };
-    Ok(Some(Command::From {
-        replica,
-        maker: *maker,
-        number: *number,
+    Ok(Some(Limits {
+        replicas: all[0],
+        keys: all[1],
+        log: all[2],
+        waiting: all[3],
     }))
 }
 
-fn read_asks(asker: u64, text: &str) -> Option<Command> {
-    match number(text) {
-        Some(asked) => Some(Command::Asks { asker, asked }),
-        None => None,
+// What is done at a replica, behind its number.
+fn read_deed(heap: Global, text: &str) -> Result<Option<Deed>, AllocError>
+    ensures { λ r. ⌜ made r (λ o. Reads deed-words Can-deed (now (text .entry)) o) ⌝ }
+{
+    if let Some(event) = read_event(heap, text)? {
+        return Ok(Some(Deed::Event { event }));
     }
+    let Some((verb, rest)) = text.split_once(' ') else {
+        return Ok(None);
+    };
+    if verb == "bytes" {
+        let Some(bytes) = value(heap, rest)? else {
+            return Ok(None);
+        };
+        return Ok(Some(Deed::Bytes { bytes }));
+    }
+    if verb == "from" {
+        let Some((maker, number)) = read_two(rest) else {
+            return Ok(None);
+        };
+        return Ok(Some(Deed::From { maker, number }));
+    }
+    if verb == "asks" {
+        let Some(asked) = number(rest) else {
+            return Ok(None);
+        };
+        return Ok(Some(Deed::Asks { asked }));
+    }
+    Ok(None)
 }

@@ -35,3 +35,10 @@ push-two a b c x y = push-then a b c (x ∷ []) (y ∷ [])
 -- a number and a space, a value, a space and a number, counts
 pub push-four : (a b c d e k v f n s : List ℕ) → b ≡ a ++ (k ++ s) → c ≡ b ++ v → d ≡ c ++ (s ++ f) → e ≡ d ++ n → e ≡ a ++ (k ++ (s ++ (v ++ (s ++ (f ++ n)))))
 push-four a b c d e k v f n s p q r t = t ∙ ap (λ z. z ++ n) (r ∙ ap (λ z. z ++ (s ++ f)) (q ∙ ap (λ z. z ++ v) p)) ∙ simp append-assoc
+
+-- a number and a verb, and what follows
+pub push-pair : (a b c i p v : List ℕ) → b ≡ a ++ (i ++ p) → c ≡ b ++ v → c ≡ a ++ (i ++ (p ++ v))
+push-pair a b c i p v e f = push-then a b c (i ++ p) v e f ∙ ap (λ t. a ++ t) (append-assoc i p v)
+
+pub push-verb : (a b c i p k s v : List ℕ) → b ≡ a ++ (i ++ (p ++ (k ++ s))) → c ≡ b ++ v → c ≡ a ++ (i ++ (p ++ (k ++ (s ++ v))))
+push-verb a b c i p k s v e f = push-then a b c (i ++ (p ++ (k ++ s))) v e f ∙ simp append-assoc

@@ -24,13 +24,17 @@ unfoldable pub puts-text : List Put → List ℕ
 puts-text [] = []
 puts-text (p ∷ ps) = codes " " ++ (put-text p ++ more-text ps)
 
--- an event at a replica, as its line
+-- what happens at a replica
+abbrev pub event-words : Event → List ℕ
+event-words (Put′ k v) = codes "put " ++ (decimal k ++ (codes " " ++ value-text (vec-items v)))
+event-words (Get k) = codes "get " ++ decimal k
+event-words (Came p) = codes "came " ++ put-text p
+event-words (Has j c) = codes "has " ++ (decimal j ++ counts-text (vec-items c))
+event-words Tell = codes "tell"
+
+-- and at which: its line
 abbrev pub event-text : ℕ → Event → List ℕ
-event-text i (Put′ k v) = (decimal i ++ (codes " put " ++ (decimal k ++ codes " "))) ++ value-text (vec-items v)
-event-text i (Get k) = decimal i ++ (codes " get " ++ decimal k)
-event-text i (Came p) = (decimal i ++ codes " came ") ++ put-text p
-event-text i (Has j c) = (decimal i ++ (codes " has " ++ decimal j)) ++ counts-text (vec-items c)
-event-text i Tell = decimal i ++ codes " tell"
+event-text i e = decimal i ++ (codes " " ++ event-words e)
 
 -- what stands behind ` -> `
 abbrev pub answer-text : Answer → List ℕ

@@ -95,7 +95,10 @@ pub fn push_event(out: &mut String, replica: u64, event: &Event) -> io::Result<(
             write!(out, "{replica} came ")?;
             push_put(out, put)?;
         }
-        Event::Has { replica: from, clock } => {
+        Event::Has {
+            replica: from,
+            clock,
+        } => {
             write!(out, "{replica} has {from}")?;
             push_counts(out, clock.as_slice())?;
         }

@@ -16,7 +16,7 @@ use Rattle.std.specs.declared.result.Result.{Result}
 use Rattle.std.specs.declared.result.Result.the-variants.{Ok, Err}
 use Rattle.words.specs.Text.{Reads, Word}
 
-own : Numerals (Digits 10) (value 10)
+pub own : Numerals (Digits 10) (value 10)
 own = numerals-by-value (Digits 10) tells-digits
 
 -- a printed number begins with a digit, and with 0 only where it is 0

@@ -1,2 +1,3 @@
-mod Decimals
+pub mod Decimals
 pub mod Values
+pub mod Spaces

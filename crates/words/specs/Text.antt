@@ -2,6 +2,7 @@
 use mathlib.Core.Path.{_≡_}
 use mathlib.Core.List.{List, [], _∷_, _++_}
 use Prim.Native.Nat.{ℕ, _/_, _%_, _<_, _^_}
+use lib.ListN.{length}
 use Rattle.std.specs.Text.{digitChar}
 use Rattle.std.specs.Written.{decimal}
 use Rattle.std.specs.shelf.Lists.{All}
@@ -43,3 +44,12 @@ value-text (b ∷ bs) = hex (b ∷ bs)
 unfoldable pub counts-text : List ℕ → List ℕ
 counts-text [] = []
 counts-text (n ∷ ns) = 32 ∷ (decimal n ++ counts-text ns)
+
+-- numbers with one space between two
+unfoldable pub numbers-text : List ℕ → List ℕ
+numbers-text [] = []
+numbers-text (n ∷ ns) = decimal n ++ counts-text ns
+
+-- at least one number
+abbrev pub Words : List ℕ → Type 0
+Words ns = All Word ns × (0 < length ns)

@@ -1,6 +1,6 @@
 // The words of a line: numbers and values.
 ghost use Prim.Native.Nat.{ℕ, _+_, _*_, _<_, _≤_};
-ghost use Rattle.words.specs.Text.{Byte, Bytes, Nibble, Reads, Word, digits, hex, value-text};
+ghost use Rattle.words.specs.Text.{Byte, Bytes, Nibble, Reads, Word, Words, digits, hex, numbers-text, value-text};
 ghost use Rattle.std.specs.Of.Vec.{vec-items};
 ghost use Rattle.std.specs.Options.{mapped};
 ghost use Rattle.std.specs.Text.{digitChar};
@@ -23,14 +23,22 @@ pub fn number(word: &str) -> Option<u64>
 }
 
 // Numbers separated by one space, at least one.
-pub fn numbers(heap: Global, text: &str) -> Result<Option<Vec<u64>>, AllocError> {
+pub fn numbers(heap: Global, text: &str) -> Result<Option<Vec<u64>>, AllocError>
+    ensures { λ r. ⌜ made r (λ o. Reads numbers-text Words (now (text .entry)) (mapped vec-items o)) ⌝ }
+{
     let mut all = Vec::new(heap);
-    for word in text.split(' ') {
+    let mut rest = text;
+    while let Some((word, more)) = rest.split_once(' ') {
         let Some(n) = number(word) else {
             return Ok(None);
         };
         all.push(n)?;
+        rest = more;
     }
+    let Some(n) = number(rest) else {
+        return Ok(None);
+    };
+    all.push(n)?;
     Ok(Some(all))
 }
 

@@ -22,9 +22,10 @@ returns-in-rest c = λ bs f e. hex-pair (c .args .digits .now) bs (c .loop-i .i)
 
 pub loop-i-again : need.loop-i-again
 loop-i-again c =
-    rw (c .in-Continue-push .ensures tt .items)
-    (hex-more (c .args .digits .now) (vec-items (c .loop-i .bytes)) (c .loop-i .i) (c .in-Some .byte) (omega arith) (c .loop-i .inv .0) (c .in-Some .ensures tt .1),
-    all-push Byte (vec-items (c .loop-i .bytes)) (c .in-Some .byte) (c .loop-i .inv .1) (c .in-Some .ensures tt .0))
+    rw (c .in-Continue-push .ensures tt .items) (
+      hex-more (c .args .digits .now) (vec-items (c .loop-i .bytes)) (c .loop-i .i) (c .in-Some .byte) (omega arith) (c .loop-i .inv .0) (c .in-Some .ensures tt .1),
+      all-push Byte (vec-items (c .loop-i .bytes)) (c .in-Some .byte) (c .loop-i .inv .1) (c .in-Some .ensures tt .0),
+    )
 
 pub returns : need.returns
 returns c =
