@@ -1,0 +1,5 @@
+use Rattle.memory.proofs.Sound.{words-fit}
+use Rattle.memory.proofs.words_fit.Needs as need
+
+pub returns : need.returns
+returns c = words-fit

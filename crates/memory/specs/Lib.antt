@@ -1,0 +1,5 @@
+pub mod Layout
+pub mod Image
+pub mod Valid
+pub mod Laws
+pub mod State

@@ -1,0 +1,5 @@
+pub mod Clocks
+pub mod Blocks
+pub mod Padded
+pub mod Bytes
+pub mod Slots
