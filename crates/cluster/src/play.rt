@@ -11,6 +11,7 @@ use text::event::Answer;
 use text::event::Event;
 use text::print::push_answer;
 use text::print::push_event;
+use wire::read::read_event;
 
 // A cluster that is played.
 #[derive(Drop)]
@@ -59,7 +60,11 @@ impl Play {
                 }
                 push_refused(out, text)
             }
-            Deed::Bytes { .. } | Deed::From { .. } => push_refused(out, text),
+            Deed::Bytes { bytes } => {
+                out.push_str(text)?;
+                push_outcome(out, &self.bytes(replica, bytes.as_slice()))
+            }
+            Deed::From { .. } => push_refused(out, text),
         }
     }
 
@@ -75,6 +80,22 @@ impl Play {
 
     // An event at a replica. No event is supported yet.
     fn happens(&mut self, _replica: u64, _event: &Event) -> Answer {
+        Answer::Refused {
+            number: 2,
+            place: 0,
+        }
+    }
+
+    // Bytes that come to a replica.
+    fn bytes(&mut self, replica: u64, bytes: &[u8]) -> Answer {
+        if replica < self.replicas
+            && let Err(refusal) = read_event(bytes)
+        {
+            return Answer::Refused {
+                number: refusal.number,
+                place: refusal.place,
+            };
+        }
         Answer::Refused {
             number: 2,
             place: 0,

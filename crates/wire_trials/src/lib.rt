@@ -1,0 +1,6 @@
+// Events and answers as bytes, by examples.
+#[cfg(test)]
+mod answers;
+#[cfg(test)]
+mod events;
+pub mod outline;
