@@ -1,0 +1,4 @@
+pub mod Reading
+pub mod Takes
+pub mod Queue
+pub mod Settled

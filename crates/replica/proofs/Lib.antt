@@ -1,0 +1,5 @@
+mod Acts
+mod Events
+mod Replies
+mod Cases
+mod Steps
