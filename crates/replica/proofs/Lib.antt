@@ -3,3 +3,4 @@ mod Events
 mod Replies
 mod Cases
 mod Steps
+mod Running

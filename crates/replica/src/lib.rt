@@ -4,21 +4,19 @@ ghost use Rattle.model.specs.Clock.{Clock as ModelClock};
 ghost use Rattle.model.specs.Delivery.{reply as replyOf};
 ghost use Rattle.model.specs.Limits.{Limits as ModelLimits};
 ghost use Rattle.memory.specs.State.{own-count};
-ghost use Rattle.memory.specs.Valid.{Sound, Valid};
+ghost use Rattle.memory.specs.Valid.{Sound};
 ghost use Rattle.model.specs.Put.{Body, Put as ModelPut, good-body, text as textOf};
 ghost use Rattle.model.specs.Replica.{Event as ModelEvent, Replica, came as cameOf, get as getOf, has as hasOf, in-range, legible, log-room, possible, put as putOf, queue-room, tell as tellOf};
 ghost use Rattle.puts.specs.Values.{Bytes, code-clock, code-put, code-text};
-ghost use Rattle.model.specs.Program.{readable};
+ghost use Rattle.model.specs.Program.{Answers-right, Memory-bounded, Program, Refusal-keeps-memory, readable};
 ghost use Rattle.ranges.specs.Checked.{Handed, code-event};
-ghost use Rattle.memory.specs.Layout.{Room, limits-at, me-at, out-of-range};
-ghost use Rattle.memory.specs.Image.{encode};
-ghost use Rattle.wire.specs.Reading.{read};
 ghost use Rattle.replica.specs.declared.Answer.the-variants.{Refused};
 ghost use lib.ListN.{length};
 ghost use mathlib.Core.Bool.{true};
-ghost use mathlib.Core.List.{List, _++_};
+ghost use mathlib.Core.List.{List};
 ghost use mathlib.Core.Path.{_≡_};
-ghost use Rattle.replica.specs.Answered.{Acted, All-supported, Stepped, says-in, some-puts};
+ghost use Rattle.replica.specs.Answered.{Acted, All-supported, says-in, some-puts};
+ghost use Rattle.replica.specs.Running.{Called, Runs, all-events};
 ghost use Prim.Native.Nat.{ℕ, _<_};
 use delivery::deliver;
 use delivery::make_put;
@@ -216,8 +214,7 @@ fn act(mem: &mut [u64], at: Place, event: Checked) -> Answer
 
 // The event that the bytes are happens at the replica whose memory this is. What is refused changes nothing; memory that is no replica's is refused by 2.
 pub fn step(mem: &mut [u64], event: &[u8]) -> Answer
-    ensures right { λ a. ⌜ ((l : ModelLimits) (r : Replica) (rest : List ℕ) → All-supported l → Valid l r → now (mem .entry) ≡ encode l r ++ rest → Stepped l r (read (now (event .entry))) rest (now (mem .exit)) (says-in (l .replicas) a)) ⌝ }
-    ensures foreign { λ a. ⌜ ((Room (limits-at (now (mem .entry))) (me-at (now (mem .entry))) (now (mem .entry)) → ⊥) → (a ≡ Refused out-of-range) × (now (mem .exit) ≡ now (mem .entry))) ⌝ }
+    ensures { λ a. ⌜ Called (now (mem .entry)) (now (event .entry)) (now (mem .exit)) a ⌝ }
 {
     let Ok((limits, me)) = limits_of(mem) else {
         return refused(2);
@@ -239,4 +236,25 @@ pub fn step(mem: &mut [u64], event: &[u8]) -> Answer
     let at = Place::new(limits, me);
     let words = HEADER + SLOT * (at.layout.waiting.base + at.layout.waiting.count);
     act(&mut mem[..words], at, checked)
+}
+
+// WHAT IS PROVED OF EVERY RUN. After any events each answer is the one that the rules give.
+pub fn answers_right() -> u8
+    ensures { λ _. ⌜ ((f : Program) → Runs f → Answers-right all-events f) ⌝ }
+{
+    0
+}
+
+// A refused event leaves every word of the memory as it was.
+pub fn refusal_keeps_memory() -> u8
+    ensures { λ _. ⌜ ((f : Program) → Runs f → Refusal-keeps-memory all-events f) ⌝ }
+{
+    0
+}
+
+// The memory that was lent at opening suffices for ever.
+pub fn memory_bounded() -> u8
+    ensures { λ _. ⌜ ((f : Program) → Runs f → Memory-bounded all-events f) ⌝ }
+{
+    0
 }
