@@ -1,4 +1,6 @@
 // A replica for C and Rust: numbers and lent slices in, one signed number out.
+#![tactic(auto)]
+
 ghost use Rattle.c_api.specs.Signed.{CallGives, OpenGives};
 
 use endpoint::call;

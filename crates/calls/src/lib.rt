@@ -1,4 +1,6 @@
 // A replica: what each event is answered, and what it does to the replica in its lent memory.
+#![tactic(auto)]
+
 ghost use Rattle.logs.specs.State.{Holds, Laid, Ranged};
 ghost use Rattle.model.specs.Clock.{Clock as ModelClock};
 ghost use Rattle.model.specs.Limits.{Limits as ModelLimits};

@@ -1,4 +1,6 @@
 // Delivery in a replica's memory: which puts are taken, and in which order. Scanning what waits reads heads, and a whole slot only where the number fits.
+#![tactic(auto)]
+
 ghost use Rattle.std.specs.Prelude.{◌≡◌, ℕ, ◌<◌, ◌≤◌, true, ◌≢◌, List, [], ◌∷◌, length, if◌then◌else◌, slice_index_or, slice_set};
 ghost use Rattle.model.specs.Limits.{Limits};
 ghost use Rattle.model.specs.Clock.{Clock as ModelClock};

@@ -1,4 +1,6 @@
 // A replica by bytes: an event's bytes in, its answer's bytes out.
+#![tactic(auto)]
+
 ghost use Rattle.std.specs.Prelude.{◌≡◌, ℕ, ◌≤◌, true, length, take, IfSome};
 ghost use Rattle.endpoint.specs.Call.{Called};
 ghost use Rattle.endpoint.specs.Running.{Runs, all_events};

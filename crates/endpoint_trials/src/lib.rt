@@ -1,4 +1,6 @@
 // A replica whose log and queue are full, and one that is asked.
+#![tactic(auto)]
+
 #[cfg(test)]
 mod tests {
     use endpoint::{ANSWER_MOST, call};

@@ -1,4 +1,6 @@
 // The statements in their first, flat form (specs/Statements.antt), each proved from the model's.
+#![tactic(auto)]
+
 ghost use Rattle.std.specs.Prelude.{◌≡◌, ℕ, Bool, true, false};
 ghost use Rattle.model.specs.Program.{Program, AnswersRight as ModelAnswersRight, RefusalKeepsMemory as ModelRefusalKeepsMemory, MemoryBounded as ModelMemoryBounded};
 ghost use Rattle.given.specs.Statements.{ShowsLatest, CausallyClosed, SameClockSameView, Converges, SeenIsEarlier, LaterIsTotal, ReadsOwnPut, ReadyIsTaken, PrunedIsEverywhere, ViewMonotone, ClockMonotone, RefusalChangesNothing, AnswersRight, RefusalKeepsMemory, MemoryBounded};

@@ -1,4 +1,6 @@
 // The header and the log of a replica in its memory: its clock, what each replica is known to have, and the own puts that somebody may lack. Nothing here costs more for more keys or a longer log.
+#![tactic(auto)]
+
 ghost use Rattle.std.specs.Prelude.{◌≡◌, ℕ, ◌+◌, ◌-◌, ◌<◌, ◌≤◌, [], ◌∷◌, length, take, slice_index_or, slice_set};
 ghost use Rattle.model.specs.Limits.{Limits as ModelLimits, count_bound, reply_most};
 ghost use Rattle.model.specs.Clock.{Clock as ModelClock, at as count_at, tick};

@@ -1,4 +1,6 @@
 // The memory of a replica: its layout, and opening it. All of the state is there, limits and the replica's own number too.
+#![tactic(auto)]
+
 ghost use Rattle.std.specs.Prelude.{◌≡◌, ℕ, ◌+◌, ◌*◌, ◌<◌, Bool, List, ◌++◌, length, Ok, Decides, MatchOption};
 ghost use Rattle.model.specs.Limits.{Limits as ModelLimits};
 ghost use Rattle.model.specs.Replica.{Replica as ModelReplica, new_replica};

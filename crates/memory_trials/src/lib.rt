@@ -1,4 +1,6 @@
 // Opening at the edges of every limit, in memory that is too short, enough and longer than needed; and a put in the words of a slot.
+#![tactic(auto)]
+
 #[cfg(test)]
 mod tests {
     use memory::{Limits, limits_of, open};

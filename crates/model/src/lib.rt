@@ -1,4 +1,6 @@
 // The theorems, each the contract of a function: without its proof the crate is refused. specs/Theorems.antt says what each means.
+#![tactic(auto)]
+
 ghost use Rattle.model.specs.Theorems.{RefusalChangesNothing, AgainChangesNothing, ClockMonotone, ViewMonotone, StoreIsFold, TakenIsHad, CausalOrder, ShowsLatest, CausallyClosed, SameClockSameView, SeenIsEarlier, LaterIsTotal, ReadsOwnPut, ReadyIsTaken, PrunedIsEverywhere, Converges, RoundsHappen, ConvergesApart, ConvergesByList, ConvergesInOrder, ProgramIsReplica, ProgramShowsLatest, ProgramsAgree, ProgramsConverge};
 ghost use Rattle.model.specs.Example.{WorkedExample, ReplyOfEight};
 ghost use Rattle.model.specs.Instances.{PremisesMet};

@@ -1,4 +1,6 @@
 // Plays a cluster of replicas from a script, and prints each event with its answer.
+#![tactic(auto)]
+
 mod made;
 mod play;
 mod replicas;

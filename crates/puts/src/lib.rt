@@ -1,4 +1,6 @@
 // Clocks, values and puts, by value. A clock has sixteen counts, of which a replica uses as many as there are replicas; the others are 0.
+#![tactic(auto)]
+
 ghost use Rattle.std.specs.Prelude.{◌≡◌, ◌^◌, ◌<◌, ◌≤◌, true, length, replicate, Decides, MatchOption};
 ghost use Rattle.model.specs.Limits.{count_bound, value_most};
 ghost use Rattle.model.specs.Clock.{at as count_at, sum as sum_of, below as is_below, join as joined_with, tick};

@@ -1,4 +1,6 @@
 // Range checks: an event that was read from bytes, by value, if its numbers are in range.
+#![tactic(auto)]
+
 ghost use Rattle.memory.specs.Layout.{InRange, code_limits};
 ghost use Rattle.model.specs.Clock.{good_clock, small};
 ghost use Rattle.model.specs.Limits.{Limits as ModelLimits};

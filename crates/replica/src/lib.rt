@@ -1,4 +1,6 @@
 // A replica: what each event does to it in its lent memory, and what it answers.
+#![tactic(auto)]
+
 ghost use Rattle.logs.specs.State.{Holds, Laid, Ranged};
 ghost use Rattle.model.specs.Clock.{Clock as ModelClock};
 ghost use Rattle.model.specs.Delivery.{reply as replyOf};

@@ -1,4 +1,6 @@
 // A line of a script to a command.
+#![tactic(auto)]
+
 ghost use Rattle.script.specs.Commands.{CanCommand, CanDeed, CanLimits, command_text, deed_words, good_limits, limits_text};
 ghost use Rattle.std.specs.Prelude.{◌≡◌, IfOk};
 ghost use Rattle.words.specs.Text.{Reads};

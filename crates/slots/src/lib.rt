@@ -1,4 +1,6 @@
 // Lent memory as a header of rows and then slots: reading and writing one, in any memory. What is not there is read as none or zeros, and not written.
+#![tactic(auto)]
+
 ghost use Rattle.std.specs.Prelude.{◌≡◌, ◌+◌, ◌*◌, ◌<◌, ◌≤◌, replicate, MatchOption};
 ghost use Rattle.puts.specs.Words.{slot_size, put_words};
 ghost use Rattle.slots.specs.Image.{slot_start, put_at, head_at, with_slot, with_copy, row_at, with_row, word_at, with_word};

@@ -1,4 +1,6 @@
 // Events and answers as bytes: read.
+#![tactic(auto)]
+
 pub mod answer;
 pub mod answers;
 pub mod clock;

@@ -1,4 +1,6 @@
 // Events and answers as bytes: written into a lent slice.
+#![tactic(auto)]
+
 pub mod answer;
 pub mod answers;
 pub mod event;

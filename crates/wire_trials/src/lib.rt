@@ -1,4 +1,6 @@
 // Events and answers as bytes, by examples.
+#![tactic(auto)]
+
 #[cfg(test)]
 mod answers;
 #[cfg(test)]

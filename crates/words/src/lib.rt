@@ -1,4 +1,6 @@
 // The words of a line: numbers and values.
+#![tactic(auto)]
+
 ghost use Rattle.std.specs.Prelude.{ℕ, ◌+◌, ◌*◌, ◌<◌, ◌≤◌, IfOk, vec_items, decimal};
 ghost use Rattle.words.specs.Text.{Byte, Bytes, Nibble, Reads, Word, Words, digits, hex, numbers_text, value_text};
 ghost use Rattle.std.specs.Option.{option_map};

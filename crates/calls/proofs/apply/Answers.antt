@@ -12,13 +12,13 @@ use Rattle.calls.proofs.apply.Goals as goal
 
 pub returns-in-Put : goal.returns-in-Put
 returns-in-Put c = λ l r e h x leg rd inr ev a.
-    put_case (λ y. readable y ≡ true → in_range l y ≡ true → c.args.answer.now ≡ code_answer l r y → Holds l (after l r y) c.apply-put.new.mem) c.in-Put.key c.in-Put.text
-    (λ v t rd' inr' a'. let b = text c.in-Put.key v in c.apply-put.ensures l r b h x (put_bytes c.in-Put.key v rd') (put_good l b inr') a') e (sym c.in-Put.is ∙ ev) rd inr a
+    put_case (λ y. readable y ≡ true → in_range l y ≡ true → c.args.answer.now ≡ code_answer l r y → Holds l (after l r y) c.apply_put.new.mem) c.in-Put.key c.in-Put.text
+    (λ v t rd' inr' a'. let b = text c.in-Put.key v in c.apply_put.ensures l r b h x (put_bytes c.in-Put.key v rd') (put_good l b inr') a') e (sym c.in-Put.is ∙ ev) rd inr a
 
 pub returns-in-Came : goal.returns-in-Came
 returns-in-Came c = λ l r e h x leg rd inr ev a.
-    came_case (λ y. readable y ≡ true → in_range l y ≡ true → c.args.answer.now ≡ code_answer l r y → Holds l (after l r y) c.apply-came.new.mem) c.in-Came.put
-    (λ q t rd' inr' a'. c.apply-came.ensures l r q h x (came_sound l q h.valid.few.replicas.1 (came_bytes q rd') inr') t a') e (sym c.in-Came.is ∙ ev) rd inr a
+    came_case (λ y. readable y ≡ true → in_range l y ≡ true → c.args.answer.now ≡ code_answer l r y → Holds l (after l r y) c.apply_came.new.mem) c.in-Came.put
+    (λ q t rd' inr' a'. c.apply_came.ensures l r q h x (came_sound l q h.valid.few.replicas.1 (came_bytes q rd') inr') t a') e (sym c.in-Came.is ∙ ev) rd inr a
 
 pub returns-in-Get : goal.returns-in-Get
 unfolding moves stored_all

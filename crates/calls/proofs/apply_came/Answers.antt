@@ -14,9 +14,9 @@ returns-in-Came c = λ l r q h x s e a.
       | inr y ↦ let z : ◌≡◌ {A = ℕ} 0 1 = cc in absurd (omega arith)
     ]
 
-pub returns-in-default : goal.returns-in-default
-returns-in-default c = λ l r q h x s e a.
+pub returns-in_default : goal.returns-in_default
+returns-in_default c = λ l r q h x s e a.
     elim (code_cases l r (came q) c.args.answer.now a) [
-      | inl y ↦ absurd (c.in-default.not-Came y.1)
+      | inl y ↦ absurd (c.in_default.not-Came y.1)
       | inr y ↦ subst (λ s. Holds l s c.args.mem.now) (sym y.0) h
     ]

@@ -18,9 +18,9 @@ returns-in-Reply c = λ l r k h x g a.
       | inr y ↦ let z : ◌≡◌ {A = ℕ} 0 1 = cc in absurd (omega arith)
     ]
 
-pub returns-in-default : goal.returns-in-default
-returns-in-default c = λ l r k h x g a.
+pub returns-in_default : goal.returns-in_default
+returns-in_default c = λ l r k h x g a.
     elim (code_cases l r (has c.args.replica k) c.args.answer.now a) [
-      | inl y ↦ absurd (c.in-default.not-Reply _ y.1)
+      | inl y ↦ absurd (c.in_default.not-Reply _ y.1)
       | inr y ↦ subst (λ s. Holds l s c.args.mem.now) (sym y.0) h
     ]

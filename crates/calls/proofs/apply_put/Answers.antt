@@ -18,13 +18,13 @@ returns-in-Made c = λ l r b h x bytes good a.
           let d = r.delivery in
           let room = room_of l r b (passed l r (put b) y.0).has_log_room in
           let same : c.in-Made.put ≡ code_put (stamped b d) = cc in
-          done_as l r (put b) _ y.0 (c.take-own.ensures l r (stamped b d) h x (stamped_sound l r b h.valid.fits bytes good room.1) (own_ready b d) refl room.0 same)
+          done_as l r (put b) _ y.0 (c.take_own.ensures l r (stamped b d) h x (stamped_sound l r b h.valid.fits bytes good room.1) (own_ready b d) refl room.0 same)
       | inr y ↦ let z : ◌≡◌ {A = ℕ} 0 1 = cc in absurd (omega arith)
     ]
 
-pub returns-in-default : goal.returns-in-default
-returns-in-default c = λ l r b h x bytes good a.
+pub returns-in_default : goal.returns-in_default
+returns-in_default c = λ l r b h x bytes good a.
     elim (code_cases l r (put b) c.args.answer.now a) [
-      | inl y ↦ absurd (c.in-default.not-Made _ y.1)
+      | inl y ↦ absurd (c.in_default.not-Made _ y.1)
       | inr y ↦ subst (λ s. Holds l s c.args.mem.now) (sym y.0) h
     ]

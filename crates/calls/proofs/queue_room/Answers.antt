@@ -8,8 +8,8 @@ returns-then-waiting-at c = λ l r q h x s e. (room_left l r q c.waiting-waiting
 
 pub returns-then-again : goal.returns-then-again
 returns-then-again c = λ l r q h x s e.
-    (elim c.then-again.either [ inl t ↦ room_again l r q (sym (c.nothing-new-again.ensures l r q (fitted l r c.args.mem.now h) x s e) ∙ t) | inr t ↦ room_ready l r q (sym (c.ready-next.ensures l r q (fitted l r c.args.mem.now h) s e) ∙ t.1) ], (c.waiting-waiting.ensures.count l r (fitted l r c.args.mem.now h) x))
+    (elim c.then-again.either [ inl t ↦ room_again l r q (sym (c.nothing_new-again.ensures l r q (fitted l r c.args.mem.now h) x s e) ∙ t) | inr t ↦ room_ready l r q (sym (c.ready-next.ensures l r q (fitted l r c.args.mem.now h) s e) ∙ t.1) ], (c.waiting-waiting.ensures.count l r (fitted l r c.args.mem.now h) x))
 
 pub returns : goal.returns
 returns c = λ l r q h x s e.
-    no_room l r q c.waiting-waiting.result c.args.at.layout.waiting.count (c.waiting-waiting.ensures.count l r (fitted l r c.args.mem.now h) x) x.waiting.1 c.if-waiting-at.false (sym (c.nothing-new-again.ensures l r q (fitted l r c.args.mem.now h) x s e) ∙ c.if-again.false) (sym (c.ready-next.ensures l r q (fitted l r c.args.mem.now h) s e) ∙ c.if-next.false)
+    no_room l r q c.waiting-waiting.result c.args.at.layout.waiting.count (c.waiting-waiting.ensures.count l r (fitted l r c.args.mem.now h) x) x.waiting.1 c.if-waiting-at.false (sym (c.nothing_new-again.ensures l r q (fitted l r c.args.mem.now h) x s e) ∙ c.if-again.false) (sym (c.ready-next.ensures l r q (fitted l r c.args.mem.now h) s e) ∙ c.if-next.false)

@@ -15,15 +15,15 @@ unfolding slot_words
 loop-j-preserved c =
     λ l r f w n g₀.
     let g = c.loop-j.invariant l r f w n g₀ in
-    emptied_more l r f _ _ _ _ c.loop-j.j _ (ap (λ x. x + c.loop-j.j) w.waiting.0) (omega arith) (omega arith) refl c.clear-slot.ensures g
+    emptied_more l r f _ _ _ _ c.loop-j.j _ (ap (λ x. x + c.loop-j.j) w.waiting.0) (omega arith) (omega arith) refl c.clear_slot.ensures g
 
 pub returns : goal.returns
 returns c =
     λ l r f w.
     let n = c.waiting-count.ensures.count l r f w in
-    let k = c.clock-of-clock.ensures l r f in
+    let k = c.clock_of-clock.ensures l r f in
     let g₀ = c.keep-stay.ensures.moved l r f w n k in
     let g = c.loop-j.invariant l r f.fits w n g₀ in
     let b = c.keep-stay.ensures.bound in
     let e = c.loop-j.auto.j-end b in
-    emptied_all l r f.fits _ _ c.loop-j.j _ (omega arith) (omega arith) g c.write-word.ensures
+    emptied_all l r f.fits _ _ c.loop-j.j _ (omega arith) (omega arith) g c.write_word.ensures

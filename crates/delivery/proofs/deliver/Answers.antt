@@ -10,7 +10,7 @@ pub returns-then-again : goal.returns-then-again
 returns-then-again c =
     λ l r q h w s p m e.
     let R : Replica → Type 0 = λ x. Holds l x c.args.mem.now in
-    let n = sym (c.nothing-new-again.ensures l r q (fitted l r _ h) w s e) ∙ c.if-again.true in
+    let n = sym (c.nothing_new-again.ensures l r q (fitted l r _ h) w s e) ∙ c.if-again.true in
     subst R (comes_again l r q n) h
 
 pub returns-then-early : goal.returns-then-early
@@ -18,7 +18,7 @@ returns-then-early c =
     λ l r q h w s p m e.
     let R : Replica → Type 0 = λ x. Holds l x c.enqueue.new.mem in
     let f = fitted l r _ h in
-    let n = sym (c.nothing-new-again.ensures l r q f w s e) ∙ c.if-again.false in
+    let n = sym (c.nothing_new-again.ensures l r q f w s e) ∙ c.if-again.false in
     let t = sym (c.ready-early.ensures l r q f s e) ∙ c.if-early.true in
     subst R (comes_early l r q n t) (c.enqueue.ensures l r q h w s (is_others l r q n p) (has_room l r q n t m) e)
 
@@ -27,7 +27,7 @@ returns c =
     λ l r q h w s p m e.
     let f = fitted l r _ h in
     let R : Replica → Type 0 = λ x. Holds l x c.settle.new.mem in
-    let n = sym (c.nothing-new-again.ensures l r q f w s e) ∙ c.if-again.false in
+    let n = sym (c.nothing_new-again.ensures l r q f w s e) ∙ c.if-again.false in
     let t = sym (c.ready-early.ensures l r q f s e) ∙ c.if-early.false in
-    let u = taken_first l r _ q (c.take-other.ensures l r q h w s t (is_others l r q n p) e) in
+    let u = taken_first l r _ q (c.take_other.ensures l r q h w s t (is_others l r q n p) e) in
     subst R (comes_ready l r q n t) (c.settle.ensures l (take_one q (begin r.delivery)) r.store u w)

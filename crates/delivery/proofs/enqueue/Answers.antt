@@ -9,4 +9,4 @@ unfolding slot_words
 returns c =
     λ l r q h w s ne lt e.
     let n = c.waiting-n.ensures.count l r (fitted l r _ h) w in
-    enqueued_holds l r _ _ _ _ q _ _ h s ne lt (λ i. w.waiting.0 i + n i) (ap put_words e) (omega arith) c.write-slot.ensures c.write-word.ensures
+    enqueued_holds l r _ _ _ _ q _ _ h s ne lt (λ i. w.waiting.0 i + n i) (ap put_words e) (omega arith) c.write_slot.ensures c.write_word.ensures

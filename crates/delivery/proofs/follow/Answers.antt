@@ -13,6 +13,6 @@ returns c =
     let ks = set d.known d.me d.clock in
     let r₁ = with_known ks r in
     let P : ℕ → Type 0 = λ i. Fitted l (with_known (set d.known i d.clock) r) c.know.new.mem in
-    let f₁ = subst P w.me (c.know.ensures l r d.clock f (omega (arith, v.me, w.me)) v.clock v.small (c.clock-of-clock.ensures l r f)) in
+    let f₁ = subst P w.me (c.know.ensures l r d.clock f (omega (arith, v.me, w.me)) v.clock v.small (c.clock_of-clock.ensures l r f)) in
     let s₁ = shaped_known l r ks h.valid.shaped in
     holds l r _ _ _ h (shaped_pruned l r₁ s₁) (c.prune.ensures l r₁ f₁ s₁ w)

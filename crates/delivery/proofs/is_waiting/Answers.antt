@@ -6,12 +6,12 @@ use Rattle.memory.proofs.Sound.{no_put}
 use Rattle.delivery.proofs.Reading.{none_some, head_here, is_in_here, is_in_none}
 use Rattle.delivery.proofs.is_waiting.Goals as goal
 
-pub loop-i-preserved-in-default : goal.loop-i-preserved-in-default
-loop-i-preserved-in-default c =
+pub loop-i-preserved-in_default : goal.loop-i-preserved-in_default
+loop-i-preserved-in_default c =
     λ l r q f w ef en.
     let n = c.waiting-i-end.ensures.count l r f w in
     let i = c.loop-i.i in
-    absurd (none_some _ (sym c.in-default.is ∙ head_here l r _ f _ i w.waiting.0 (omega arith) no_put _ c.read-head.ensures))
+    absurd (none_some _ (sym c.in_default.is ∙ head_here l r _ f _ i w.waiting.0 (omega arith) no_put _ c.read_head.ensures))
 
 pub returns-then-number-head : goal.returns-then-number-head
 returns-then-number-head c =
@@ -20,7 +20,7 @@ returns-then-number-head c =
     let i = c.loop-i.i in
     let h : i < length r.delivery.waiting = omega arith in
     let x = c.in-Some.head in
-    let e = is_in_here q r.delivery.waiting i no_put x h (sym c.in-Some.is ∙ head_here l r _ f _ i w.waiting.0 h no_put _ c.read-head.ensures) in
+    let e = is_in_here q r.delivery.waiting i no_put x h (sym c.in-Some.is ∙ head_here l r _ f _ i w.waiting.0 h no_put _ c.read_head.ensures) in
     let a : (eqb q.from x.from && eqb (number q) x.number) ≡ true = and_from (eqb q.from x.from) (eqb (number q) x.number) (eq-eqb q.from x.from (omega arith)) (eq-eqb (number q) x.number (omega arith)) in
     sym (sym (c.loop-i.invariant l r q f w ef en) ∙ e ∙ ap (λ b. b || is_in q (drop (i + 1) r.delivery.waiting)) a)
 
@@ -31,7 +31,7 @@ loop-i-preserved c =
     let i = c.loop-i.i in
     let h : i < length r.delivery.waiting = omega arith in
     let x = c.in-Some.head in
-    let e = is_in_here q r.delivery.waiting i no_put x h (sym c.in-Some.is ∙ head_here l r _ f _ i w.waiting.0 h no_put _ c.read-head.ensures) in
+    let e = is_in_here q r.delivery.waiting i no_put x h (sym c.in-Some.is ∙ head_here l r _ f _ i w.waiting.0 h no_put _ c.read_head.ensures) in
     let a : (eqb q.from x.from && eqb (number q) x.number) ≡ false =
     elim c.else-from-head.either [
       | inl a ↦ and_right (eqb q.from x.from) (eqb (number q) x.number) (ne_eqb (number q) x.number (λ z. a.1 (en ∙ z)))

@@ -13,4 +13,4 @@ returns c =
     let b = text c.args.key v in
     let n = room_of l r b m in
     let e = c.stamp-p.ensures l r v (fitted l r _ h) w et in
-    (e, c.take-own.ensures l r (stamped b d) h w (stamped_sound l r b h.valid.fits bs g n.1) (own_ready b d) refl n.0 e)
+    (e, c.take_own.ensures l r (stamped b d) h w (stamped_sound l r b h.valid.fits bs g n.1) (own_ready b d) refl n.0 e)

@@ -14,5 +14,5 @@ pub returns-else-had : goal.returns-else-had
 returns-else-had c =
     λ l r q f w s e.
     let b = ap (λ (p : Put). number (put_of p)) e ∙ number_code q s.fit in
-    c.is-waiting.ensures l r q f w (from_code _ q e) (c.number.ensures (omega (arith, s.fit.number)) ∙ b)
+    c.is_waiting.ensures l r q f w (from_code _ q e) (c.number.ensures (omega (arith, s.fit.number)) ∙ b)
     ∙ sym (ap (λ b. b || is_in q r.delivery.waiting) (sym (c.had.ensures l r q f s e) ∙ c.if-had.false))

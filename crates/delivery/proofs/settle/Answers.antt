@@ -12,7 +12,7 @@ use Rattle.delivery.proofs.settle.Goals as goal
 pub returns : goal.returns
 returns c =
     λ l m s u₀ w₀.
-    let u = c.take-waiting.ensures l m s u₀ w₀ in
+    let u = c.take_waiting.ensures l m s u₀ w₀ in
     let x = settle l.waiting_most m in
     let r = with_waiting u.all (moved x s) in
     let w = laid_as l _ _ _ (sym (settle_me l.waiting_most m)) w₀ in

@@ -11,7 +11,7 @@ returns-then-wins c =
     λ l r q f s e.
     let k = key_code _ q e in
     let b = c.wins.ensures l r q f s e ∙ ap (λ t. cond t (q ∷ []) (shown r.store (key_of q.body))) c.if-wins.true in
-    stood_new l r q _ _ _ _ f s (sym b) (λ i. c.requires.keys i + k i) (ap put_words e) c.write-slot.ensures
+    stood_new l r q _ _ _ _ f s (sym b) (λ i. c.requires.keys i + k i) (ap put_words e) c.write_slot.ensures
 
 pub returns-else-wins : goal.returns-else-wins
 returns-else-wins c =

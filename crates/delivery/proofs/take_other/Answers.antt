@@ -15,10 +15,10 @@ returns c =
     let d = r.delivery in
     let from = from_code _ q e in
     let S : ℕ → Type 0 = λ i. at d.clock i + 1 < count_bound in
-    let P : ℕ → Type 0 = λ i. Fitted l (with_clock (tick d.clock i) r) c.count-put.new.mem in
+    let P : ℕ → Type 0 = λ i. Fitted l (with_clock (tick d.clock i) r) c.count_put.new.mem in
     let R : Replica → Type 0 = λ x. Holds l x c.follow.new.mem in
     let r₁ = with_clock (tick d.clock q.from) r in
     let r₂ = with_store (stored q r.store) r₁ in
-    let f₁ = subst P from (c.count-put.ensures l r (fitted l r _ h) (omega (arith, s.from)) (subst S (sym from) (next_small l d q s n))) in
+    let f₁ = subst P from (c.count_put.ensures l r (fitted l r _ h) (omega (arith, s.from)) (subst S (sym from) (next_small l d q s n))) in
     let f₂ = c.stand.ensures l r₁ q f₁ s e in
     subst R (took_other r q ne) (c.follow.ensures l r₂ (holds l r r₂ _ _ h (shaped_other l r q.from h.valid.shaped ne) f₂) w)

@@ -26,7 +26,7 @@ loop-i-preserved c = (
       let n = c.waiting-n.ensures.count l r f₀ w in
       let lt : i < length d.waiting = omega arith in
       let q : Put Body = get_or d.waiting i no_put in
-      let e = sym c.in-default.is ∙ c.ready-at.ensures l r no_put f w lt (c.clock-of-clock.ensures l r f₀) in
+      let e = sym c.in_default.is ∙ c.ready_at.ensures l r no_put f w lt (c.clock_of-clock.ensures l r f₀) in
       ready_skips d d.waiting i no_put lt (none_chosen (ready d q) q e) (c.loop-i.invariant.1 l r h w),
 )
 
@@ -46,12 +46,12 @@ again-preserved c =
     let n = c.waiting-n.ensures.count l r f₀ w in
     let lt : i < length u.all = omega arith in
     let q : Put Body = get_or u.all i no_put in
-    let b = some_chosen (ready d q) q _ (sym c.in-Some.is ∙ c.ready-at.ensures l r no_put f w lt (c.clock-of-clock.ensures l r f₀)) in
+    let b = some_chosen (ready d q) q _ (sym c.in-Some.is ∙ c.ready_at.ensures l r no_put f w lt (c.clock_of-clock.ensures l r f₀)) in
     let y = first_of_all l g.run s _ u ∙ ready_found d u.all i no_put lt b.0 (c.loop-i.invariant.1 l r h w) in
     let z : c.again.rounds ≡ suc (c.again.rounds - 1) = omega arith in
     record {
       run = take_one q g.run;
-      unswept = taken_unswept l g.run s _ _ q u (c.take-other.ensures l r q h w (f.fits.delivery.waits i no_put lt) b.0 (h.valid.shaped.others i no_put lt) b.1);
+      unswept = taken_unswept l g.run s _ _ q u (c.take_other.ensures l r q h w (f.fits.delivery.waits i no_put lt) b.0 (h.valid.shaped.others i no_put lt) b.1);
       me = g.me;
       same = sym (ap (λ x. settle x g.run) z ∙ settle_takes (c.again.rounds - 1) g.run q y) ∙ g.same;
     }

@@ -15,4 +15,4 @@ returns c =
     λ l r f w.
     let n = c.waiting.ensures.count l r f w in
     let h : c.args.i < length r.delivery.waiting = omega arith in
-    head_here l r _ f _ c.args.i w.waiting.0 h no_put _ c.read-head.ensures ∙ sym (ap code_head (nth_some r.delivery.waiting c.args.i no_put h))
+    head_here l r _ f _ c.args.i w.waiting.0 h no_put _ c.read_head.ensures ∙ sym (ap code_head (nth_some r.delivery.waiting c.args.i no_put h))

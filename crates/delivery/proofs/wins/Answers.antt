@@ -9,11 +9,11 @@ pub returns-in-None : goal.returns-in-None
 returns-in-None c =
     λ l r q f s e.
     let k = key_code _ q e in
-    wins_none q (shown r.store (key_of q.body)) (sym c.in-None.is ∙ c.value-at.ensures l r f (omega (arith, s.key)) ∙ ap (λ x. code_slot (shown r.store x)) k)
+    wins_none q (shown r.store (key_of q.body)) (sym c.in-None.is ∙ c.value_at.ensures l r f (omega (arith, s.key)) ∙ ap (λ x. code_slot (shown r.store x)) k)
 
 pub returns-in-Some : goal.returns-in-Some
 returns-in-Some c =
     λ l r q f s e.
     let k = key_code _ q e in
     later_is l q (shown r.store (key_of q.body)) _ c.in-Some.old _ s (there_sound l r.store q f.fits.store s) e
-    (sym c.in-Some.is ∙ c.value-at.ensures l r f (omega (arith, s.key)) ∙ ap (λ x. code_slot (shown r.store x)) k) c.later.ensures
+    (sym c.in-Some.is ∙ c.value_at.ensures l r f (omega (arith, s.key)) ∙ ap (λ x. code_slot (shown r.store x)) k) c.later.ensures

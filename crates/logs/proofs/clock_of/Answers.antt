@@ -4,4 +4,4 @@ use Rattle.memory.proofs.State.{reads}
 use Rattle.logs.proofs.clock_of.Goals as goal
 
 pub returns : goal.returns
-returns c = λ l r f. let e = c.read-row.ensures ∙ ap (row_at 1) f.mem ∙ (reads l r f.fits).clock in λ i. record { counts = e i }
+returns c = λ l r f. let e = c.read_row.ensures ∙ ap (row_at 1) f.mem ∙ (reads l r f.fits).clock in λ i. record { counts = e i }

@@ -7,5 +7,5 @@ use Rattle.logs.proofs.count_put.Goals as goal
 pub returns : goal.returns
 returns c =
     λ l r f h s.
-    let e = c.read-word-n.ensures ∙ ap (word_at 1 c.args.from) f.mem ∙ (reads l r f.fits).count c.args.from (omega (arith, f.fits.delivery.replicas)) in
-    ticked l r _ f _ c.args.from _ h s (omega arith) c.write-word.ensures
+    let e = c.read_word-n.ensures ∙ ap (word_at 1 c.args.from) f.mem ∙ (reads l r f.fits).count c.args.from (omega (arith, f.fits.delivery.replicas)) in
+    ticked l r _ f _ c.args.from _ h s (omega arith) c.write_word.ensures

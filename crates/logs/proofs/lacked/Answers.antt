@@ -10,7 +10,7 @@ returns c =
     λ l r x h w n e.
     let d = r.delivery in
     let f = fitted l r _ h in
-    let o = c.count-of-own.ensures l r f (omega (arith, f.fits.delivery.me, w.me)) ∙ ap (at d.clock) w.me in
+    let o = c.count_of-own.ensures l r f (omega (arith, f.fits.delivery.me, w.me)) ∙ ap (at d.clock) w.me in
     let t = c.count.ensures ∙ ap (λ (y : Clock). at y.counts c.args.at.me) e ∙ getD_pad 16 x c.args.at.me (omega (arith, f.fits.delivery.replicas)) ∙ ap (at x) w.me in
     let m = c.logged.ensures.count l r f w h.valid.shaped.room in
     omega arith

@@ -12,7 +12,7 @@ loop-i-preserved c =
     let d = r.delivery in
     let h : i < l.replicas = omega (arith, w.replicas) in
     let n = f.fits.delivery.replicas in
-    let e = c.read-word.ensures ∙ (λ k. word_at (2 + i) (w.me k) (f.mem k)) ∙ (reads l r f.fits).known_count i d.me h (omega (arith, f.fits.delivery.me)) in
+    let e = c.read_word.ensures ∙ (λ k. word_at (2 + i) (w.me k) (f.mem k)) ∙ (reads l r f.fits).known_count i d.me h (omega (arith, f.fits.delivery.me)) in
     ap (λ x. least x d.me (drop (i + 1) d.known)) (c.min-low.ensures ∙ ap (min c.loop-i.low) e)
     ∙ sym (least_more c.loop-i.low d.me i d.known (omega (arith, f.fits.delivery.known))) ∙ c.loop-i.invariant l r f w
 

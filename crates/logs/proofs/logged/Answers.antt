@@ -7,5 +7,5 @@ pub returns : goal.returns
 returns c =
     record {
       bound = omega arith;
-      count = λ l r f w h. let e = c.read-word.ensures ∙ ap (word_at 0 1) f.mem ∙ (reads l r f.fits).log_size in omega (arith, w.log.1);
+      count = λ l r f w h. let e = c.read_word.ensures ∙ ap (word_at 0 1) f.mem ∙ (reads l r f.fits).log_size in omega (arith, w.log.1);
     }

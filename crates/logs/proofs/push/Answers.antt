@@ -17,4 +17,4 @@ returns c =
     let b = ap (λ (p : Put). number (put_of p)) e ∙ number_code q s.fit in
     let n = c.number.ensures (omega (arith, s.fit.number)) ∙ b in
     let k = c.logged-len.ensures.count l r f w (omega arith) in
-    pushed l r _ f _ _ _ q _ _ (omega arith) s (λ i. w.log.0 i + n i % w.log.1 i) (ap put_words e) (omega arith) c.write-slot.ensures c.write-word.ensures
+    pushed l r _ f _ _ _ q _ _ (omega arith) s (λ i. w.log.0 i + n i % w.log.1 i) (ap put_words e) (omega arith) c.write_slot.ensures c.write_word.ensures

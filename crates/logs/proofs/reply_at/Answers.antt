@@ -26,6 +26,6 @@ returns c =
     let m = c.lacked-len.ensures l r x h w n e in
     let k = reply_length x d h.valid.shaped.down in
     let lt : i < length (reply x d) = omega arith in
-    let o = c.count-of-own.ensures l r f (omega (arith, f.fits.delivery.me, w.me)) ∙ ap (at d.clock) w.me in
-    c.read-log.ensures l r ((lacked_of x d - 1) - i) no_put h w (omega arith) (omega arith)
+    let o = c.count_of-own.ensures l r f (omega (arith, f.fits.delivery.me, w.me)) ∙ ap (at d.clock) w.me in
+    c.read_log.ensures l r ((lacked_of x d - 1) - i) no_put h w (omega arith) (omega arith)
     ∙ ap code_slot (ap (λ p. p ∷ []) (sym (reply_at x d i no_put h.valid.shaped.down lt)) ∙ sym (nth_some (reply x d) i no_put lt))

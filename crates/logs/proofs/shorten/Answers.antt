@@ -22,11 +22,11 @@ loop-len-preserved c = (
       let j : ℕ = c.loop-len.len - 1 in
       let e : c.loop-len.len ≡ suc j = omega arith in
       let P : ℕ → Type 0 = λ n. Fitted l (with_log (take n r.delivery.log) r) c.loop-len.mem in
-      let a : c.saturating-sub.result ≡ own_count r - j = omega arith in (
+      let a : c.saturating_sub.result ≡ own_count r - j = omega arith in (
         omega arith,
         (
           λ t. omega arith,
-          shorter l r _ _ _ _ _ j f.fits s (omega (arith, i.0)) (λ k. w.log.0 k + a k % w.log.1 k) refl c.clear-slot.ensures c.write-word.ensures (subst P e i.1.1),
+          shorter l r _ _ _ _ _ j f.fits s (omega (arith, i.0)) (λ k. w.log.0 k + a k % w.log.1 k) refl c.clear_slot.ensures c.write_word.ensures (subst P e i.1.1),
         ),
       ),
 )

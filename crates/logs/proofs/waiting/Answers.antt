@@ -7,5 +7,5 @@ pub returns : goal.returns
 returns c =
     record {
       bound = omega arith;
-      count = λ l r f w. let e = c.read-word.ensures ∙ ap (word_at 0 0) f.mem ∙ (reads l r f.fits).waiting_size in omega (arith, f.fits.delivery.room, w.waiting.1);
+      count = λ l r f w. let e = c.read_word.ensures ∙ ap (word_at 0 0) f.mem ∙ (reads l r f.fits).waiting_size in omega (arith, f.fits.delivery.room, w.waiting.1);
     }

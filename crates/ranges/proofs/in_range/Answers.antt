@@ -6,25 +6,25 @@ use Rattle.ranges.specs.declared.Checked.TheVariants.{Put, Get, Came, Has, Tell}
 use Rattle.ranges.proofs.Tests.{both_hold, first_fails, rest_fails}
 use Rattle.ranges.proofs.in_range.Goals as goal
 
-pub returns-in-default : goal.returns-in-default
+pub returns-in_default : goal.returns-in_default
 unfolding in_range
-returns-in-default c = λ l e h. ap (λ x. in_range l (event x)) c.in-Put.is ∙ c.in-default.ensures l e
+returns-in_default c = λ l e h. ap (λ x. in_range l (event x)) c.in-Put.is ∙ c.in_default.ensures l e
 
-pub returns-in-default-below : goal.returns-in-default-below
+pub returns-in_default-below : goal.returns-in_default-below
 unfolding in_range
-returns-in-default-below c = λ l e h. ap (λ x. in_range l (event x)) c.in-Get.is ∙ ap (λ x. ltb c.in-Get.key x.keys) e ∙ c.in-default-below.ensures
+returns-in_default-below c = λ l e h. ap (λ x. in_range l (event x)) c.in-Get.is ∙ ap (λ x. ltb c.in-Get.key x.keys) e ∙ c.in_default-below.ensures
 
-pub returns-in-default-put-in-range : goal.returns-in-default-put-in-range
+pub returns-in_default-put_in_range : goal.returns-in_default-put_in_range
 unfolding in_range
-returns-in-default-put-in-range c = λ l e h. ap (λ x. in_range l (event x)) c.in-Came.is ∙ c.in-default-put-in-range.ensures l e h
+returns-in_default-put_in_range c = λ l e h. ap (λ x. in_range l (event x)) c.in-Came.is ∙ c.in_default-put_in_range.ensures l e h
 
-pub returns-in-default-below-2 : goal.returns-in-default-below-2
+pub returns-in_default-below-2 : goal.returns-in_default-below-2
 unfolding in_range
-returns-in-default-below-2 c = λ l e h. ap (λ x. in_range l (event x)) c.in-Has.is ∙ first_fails _ _ (ap (λ x. ltb c.in-Has.replica x.replicas) e ∙ c.in-default-below-2.ensures)
+returns-in_default-below-2 c = λ l e h. ap (λ x. in_range l (event x)) c.in-Has.is ∙ first_fails _ _ (ap (λ x. ltb c.in-Has.replica x.replicas) e ∙ c.in_default-below-2.ensures)
 
-pub returns-in-default-clock-of : goal.returns-in-default-clock-of
+pub returns-in_default-clock_of : goal.returns-in_default-clock_of
 unfolding in_range
-returns-in-default-clock-of c = λ l e h. ap (λ x. in_range l (event x)) c.in-Has.is ∙ rest_fails _ _ (c.in-default-clock-of.ensures l e h)
+returns-in_default-clock_of c = λ l e h. ap (λ x. in_range l (event x)) c.in-Has.is ∙ rest_fails _ _ (c.in_default-clock_of.ensures l e h)
 
 pub returns-in-Some : goal.returns-in-Some
 unfolding in_range
@@ -40,18 +40,18 @@ returns-in-Some-below c = λ l e h. (
   ap Get c.in-Some-below.ensures.1 ∙ sym (ap (λ x. code_event (event x)) c.in-Get.is),
 )
 
-pub returns-in-Some-put-in-range : goal.returns-in-Some-put-in-range
+pub returns-in-Some-put_in_range : goal.returns-in-Some-put_in_range
 unfolding in_range
-returns-in-Some-put-in-range c = λ l e h. (
-  ap (λ x. in_range l (event x)) c.in-Came.is ∙ (c.in-Some-put-in-range.ensures l e h).0,
-  ap Came (c.in-Some-put-in-range.ensures l e h).1 ∙ sym (ap (λ x. code_event (event x)) c.in-Came.is),
+returns-in-Some-put_in_range c = λ l e h. (
+  ap (λ x. in_range l (event x)) c.in-Came.is ∙ (c.in-Some-put_in_range.ensures l e h).0,
+  ap Came (c.in-Some-put_in_range.ensures l e h).1 ∙ sym (ap (λ x. code_event (event x)) c.in-Came.is),
 )
 
-pub returns-in-Some-clock-of : goal.returns-in-Some-clock-of
+pub returns-in-Some-clock_of : goal.returns-in-Some-clock_of
 unfolding in_range
-returns-in-Some-clock-of c = λ l e h. (
-  ap (λ x. in_range l (event x)) c.in-Has.is ∙ both_hold _ _ (ap (λ x. ltb c.in-Has.replica x.replicas) e ∙ c.in-Some-below-2.ensures.0) (c.in-Some-clock-of.ensures l e h).0,
-  (λ i. Has (c.in-Some-below-2.ensures.1 i) ((c.in-Some-clock-of.ensures l e h).1 i)) ∙ sym (ap (λ x. code_event (event x)) c.in-Has.is),
+returns-in-Some-clock_of c = λ l e h. (
+  ap (λ x. in_range l (event x)) c.in-Has.is ∙ both_hold _ _ (ap (λ x. ltb c.in-Has.replica x.replicas) e ∙ c.in-Some-below-2.ensures.0) (c.in-Some-clock_of.ensures l e h).0,
+  (λ i. Has (c.in-Some-below-2.ensures.1 i) ((c.in-Some-clock_of.ensures l e h).1 i)) ∙ sym (ap (λ x. code_event (event x)) c.in-Has.is),
 )
 
 pub returns-in-Tell : goal.returns-in-Tell

@@ -5,18 +5,18 @@ use Rattle.wire.specs.Said.{put_of}
 use Rattle.ranges.proofs.Tests.{all_hold, body_fails, clock_long, from_fails, number_fails, number_in, number_out, seen_fails}
 use Rattle.ranges.proofs.put_in_range.Goals as goal
 
-pub returns-in-default : goal.returns-in-default
-returns-in-default c = λ l e h. body_fails l (put_of c.args.put) (c.in-default.ensures l e)
+pub returns-in_default : goal.returns-in_default
+returns-in_default c = λ l e h. body_fails l (put_of c.args.put) (c.in_default.ensures l e)
 
-pub returns-in-default-below : goal.returns-in-default-below
-returns-in-default-below c = λ l e h. from_fails l (put_of c.args.put) (ap (λ x. ltb c.args.put.from x.replicas) e ∙ c.in-default-below.ensures)
+pub returns-in_default-below : goal.returns-in_default-below
+returns-in_default-below c = λ l e h. from_fails l (put_of c.args.put) (ap (λ x. ltb c.args.put.from x.replicas) e ∙ c.in_default-below.ensures)
 
-pub returns-in-default-clock-of : goal.returns-in-default-clock-of
-returns-in-default-clock-of c = λ l e h. seen_fails l (put_of c.args.put) (c.in-default-clock-of.ensures l e h)
+pub returns-in_default-clock_of : goal.returns-in_default-clock_of
+returns-in_default-clock_of c = λ l e h. seen_fails l (put_of c.args.put) (c.in_default-clock_of.ensures l e h)
 
 pub returns-then-count : goal.returns-then-count
 returns-then-count c = λ l e h.
-    let seen = c.in-Some-clock-of.ensures l e h in
+    let seen = c.in-Some-clock_of.ensures l e h in
     let from = c.in-Some-below.ensures.1 in
     let long : length (clock_in c.args.put.seen.bytes.now) ≤ 16 = omega (arith, clock_long l (clock_in c.args.put.seen.bytes.now) seen.0, ap (λ x. x.replicas) e, h.replicas.1) in
     number_fails l (put_of c.args.put)
@@ -25,7 +25,7 @@ returns-then-count c = λ l e h.
 pub returns : goal.returns
 returns c = λ l e h.
     let parts = c.in-Some.ensures l e in
-    let seen = c.in-Some-clock-of.ensures l e h in
+    let seen = c.in-Some-clock_of.ensures l e h in
     let from = c.in-Some-below.ensures in
     let long : length (clock_in c.args.put.seen.bytes.now) ≤ 16 = omega (arith, clock_long l (clock_in c.args.put.seen.bytes.now) seen.0, ap (λ x. x.replicas) e, h.replicas.1) in (
       all_hold l (put_of c.args.put) parts.0 (ap (λ x. ltb c.args.put.from x.replicas) e ∙ from.0) seen.0

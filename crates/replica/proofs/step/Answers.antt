@@ -11,9 +11,9 @@ use Rattle.replica.specs.Answered.{Stepped, says_in}
 use Rattle.replica.proofs.Steps.{found, no_event, out_of_range, read_legible, steps, words_are}
 use Rattle.replica.proofs.step.Goals as goal
 
-pub returns-in-default : goal.returns-in-default
-returns-in-default c = record {
-  right = λ l r rest all v e. let bad = c.in-default.ensures.image l r rest v e in let z : ◌≡◌ {A = ℕ} 0 1 = cc in absurd (omega arith);
+pub returns-in_default : goal.returns-in_default
+returns-in_default c = record {
+  right = λ l r rest all v e. let bad = c.in_default.ensures.image l r rest v e in let z : ◌≡◌ {A = ℕ} 0 1 = cc in absurd (omega arith);
   foreign = λ f. (c.refused.ensures, refl);
 }
 
@@ -23,14 +23,14 @@ returns-in-Err c = record {
   foreign = λ f. absurd (f (subst (λ (x : Limits × ℕ). Room x.0 x.1 c.args.mem.now) c.in-Ok.ensures.any.0 c.in-Ok.ensures.any.1));
 }
 
-pub returns-in-default-in-range : goal.returns-in-default-in-range
-returns-in-default-in-range c = record {
+pub returns-in_default-in_range : goal.returns-in_default-in_range
+returns-in_default-in_range c = record {
   right = λ l r rest all v e.
       let same = found c.in-Ok.limits (code_limits l) c.in-Ok.me r.delivery.me (c.in-Ok.ensures.image l r rest v e) in
-      let bad = c.in-default-in-range.ensures l same.0 c.in-Ok.ensures.any.1.limits in
-      subst (λ a. Stepped l r (read c.args.event.now) rest c.args.mem.now (says_in l.replicas a)) (sym c.refused-in-default-in-range.ensures)
-      (subst (λ x. Stepped l r x rest c.args.mem.now (refused 2 0)) c.in-Ok-read-event.ensures.is
-      (out_of_range l r rest c.args.mem.now v e (event c.in-Ok-read-event.event) all (read_legible c.in-Ok-read-event.event).0 (read_legible c.in-Ok-read-event.event).1 bad));
+      let bad = c.in_default-in_range.ensures l same.0 c.in-Ok.ensures.any.1.limits in
+      subst (λ a. Stepped l r (read c.args.event.now) rest c.args.mem.now (says_in l.replicas a)) (sym c.refused-in_default-in_range.ensures)
+      (subst (λ x. Stepped l r x rest c.args.mem.now (refused 2 0)) c.in-Ok-read_event.ensures.is
+      (out_of_range l r rest c.args.mem.now v e (event c.in-Ok-read_event.event) all (read_legible c.in-Ok-read_event.event).0 (read_legible c.in-Ok-read_event.event).1 bad));
   foreign = λ f. absurd (f (subst (λ (x : Limits × ℕ). Room x.0 x.1 c.args.mem.now) c.in-Ok.ensures.any.0 c.in-Ok.ensures.any.1));
 }
 
@@ -49,7 +49,7 @@ returns c = record {
       let good = c.in-Some.ensures l same.0 c.in-Ok.ensures.any.1.limits in
       let laid = subst (λ k. Laid l k c.new-at.result) same.1 (c.new-at.ensures.laid l (sym same.0)) in
       let whole = words_are c.in-Ok.limits c.in-Ok.me c.new-at.result c.new-at.ensures.laid ∙ ap total (sym same.0) in
-      steps l r (event c.in-Ok-read-event.event) (read c.args.event.now) rest c.args.mem.now c.act.new.mem (512 + 32 * (c.new-at.result.layout.waiting.base + c.new-at.result.layout.waiting.count)) (says_in l.replicas c.act.result) c.in-Ok-read-event.ensures.is v e whole
-      (λ h. c.act.ensures l r (event c.in-Ok-read-event.event) h laid all (read_legible c.in-Ok-read-event.event).0 c.in-Ok-read-event.ensures.right.carried good.0 good.1);
+      steps l r (event c.in-Ok-read_event.event) (read c.args.event.now) rest c.args.mem.now c.act.new.mem (512 + 32 * (c.new-at.result.layout.waiting.base + c.new-at.result.layout.waiting.count)) (says_in l.replicas c.act.result) c.in-Ok-read_event.ensures.is v e whole
+      (λ h. c.act.ensures l r (event c.in-Ok-read_event.event) h laid all (read_legible c.in-Ok-read_event.event).0 c.in-Ok-read_event.ensures.right.carried good.0 good.1);
   foreign = λ f. absurd (f (subst (λ (x : Limits × ℕ). Room x.0 x.1 c.args.mem.now) c.in-Ok.ensures.any.0 c.in-Ok.ensures.any.1));
 }

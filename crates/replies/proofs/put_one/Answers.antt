@@ -6,10 +6,10 @@ use Rattle.replies.proofs.put_one.Goals as goal
 pub returns : goal.returns
 unfolding write_puts
 returns c =
-    let item = wrote_as c.put-item-end.ensures (ap write_item c.sent.ensures.is) in
+    let item = wrote_as c.put_item-end.ensures (ap write_item c.sent.ensures.is) in
     record {
       bytes = _;
-      wrote = then_wrote c.put-bytes-at.ensures (then_wrote item c.put_bytes.ensures (omega (arith, c.sent.ensures.most))) (omega arith);
+      wrote = then_wrote c.put_bytes-at.ensures (then_wrote item c.put_bytes.ensures (omega (arith, c.sent.ensures.most))) (omega arith);
       most = omega (arith, c.sent.ensures.most);
       are = refl;
     }

@@ -5,7 +5,7 @@ use Rattle.replies.proofs.put_refusal.Goals as goal
 pub returns : goal.returns
 returns c = record {
   bytes = _;
-  wrote = then_wrote c.put-bytes-tag.ensures (then_wrote c.put-number-number.ensures c.put-number.ensures (omega arith)) (omega arith);
+  wrote = then_wrote c.put_bytes-tag.ensures (then_wrote c.put_number-number.ensures c.put_number.ensures (omega arith)) (omega arith);
   most = omega arith;
   are = refl;
 }

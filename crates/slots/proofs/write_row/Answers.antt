@@ -3,7 +3,7 @@ use Rattle.slots.proofs.Rows.{writes_row, no_write, row_missing}
 use Rattle.slots.proofs.write_row.Goals as goal
 
 pub returns-then-mem-ge-HEADER : goal.returns-then-mem-ge-HEADER
-returns-then-mem-ge-HEADER c = writes_row c.args.mem.now c.args.r _ _ _ (omega arith) (omega arith) (omega arith) c.copy-from-slice.ensures.after
+returns-then-mem-ge-HEADER c = writes_row c.args.mem.now c.args.r _ _ _ (omega arith) (omega arith) (omega arith) c.copy_from_slice.ensures.after
 
 pub returns-else-r-lt-ROWS : goal.returns-else-r-lt-ROWS
 returns-else-r-lt-ROWS c =

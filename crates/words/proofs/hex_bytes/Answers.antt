@@ -12,12 +12,12 @@ pub loop-i-init : goal.loop-i-init
 unfolding hex
 loop-i-init c = rw c.new-bytes.ensures.items (refl, tt)
 
-pub returns-in-default : goal.returns-in-default
-returns-in-default c = λ bs f e. hex_pair c.args.digits.now bs c.loop-i.i (omega arith) f e c.in-default.ensures
+pub returns-in_default : goal.returns-in_default
+returns-in_default c = λ bs f e. hex_pair c.args.digits.now bs c.loop-i.i (omega arith) f e c.in_default.ensures
 
 pub loop-i-preserved : goal.loop-i-preserved
 loop-i-preserved c =
-    rw c.in-ok-push.ensures.items (
+    rw c.in_ok-push.ensures.items (
       hex_more c.args.digits.now (vec_items c.loop-i.bytes) c.loop-i.i c.in-Some.byte (omega arith) c.loop-i.invariant.0 c.in-Some.ensures.1,
       All-push Byte (vec_items c.loop-i.bytes) c.in-Some.byte c.loop-i.invariant.1 c.in-Some.ensures.0,
     )

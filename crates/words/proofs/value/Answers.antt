@@ -10,12 +10,12 @@ pub returns-then-eq : goal.returns-then-eq
 unfolding value_text
 returns-then-eq c = rw c.new.ensures.items (tt, c.eq.ensures.0 c.if-eq.true)
 
-pub returns-then-is-empty : goal.returns-then-is-empty
-returns-then-is-empty c = λ bs f e. value_some c.args.word.now bs e (eqb-true _ 0 (sym c.is-empty.ensures ∙ c.if-is-empty.true))
+pub returns-then-is_empty : goal.returns-then-is_empty
+returns-then-is_empty c = λ bs f e. value_some c.args.word.now bs e (eqb-true _ 0 (sym c.is_empty.ensures ∙ c.if-is_empty.true))
 
 pub returns : goal.returns
 returns c =
-    IfOk-weaker c.hex-bytes.result _ _
-    (λ o h. value_reads c.args.word.now (option_map vec_items o) (λ z. clash (sym c.if-is-empty.false ∙ c.is-empty.ensures ∙ eq-eqb _ 0 z)) (λ z. clash (sym c.if-eq.false ∙ c.eq.ensures.1 z))
-    (subst (λ w. Reads hex Bytes w (option_map vec_items o)) c.as-bytes.ensures.value h))
-    c.hex-bytes.ensures
+    IfOk-weaker c.hex_bytes.result _ _
+    (λ o h. value_reads c.args.word.now (option_map vec_items o) (λ z. clash (sym c.if-is_empty.false ∙ c.is_empty.ensures ∙ eq-eqb _ 0 z)) (λ z. clash (sym c.if-eq.false ∙ c.eq.ensures.1 z))
+    (subst (λ w. Reads hex Bytes w (option_map vec_items o)) c.as_bytes.ensures.value h))
+    c.hex_bytes.ensures

@@ -10,8 +10,8 @@ loop-i-preserved c =
     let i : ℕ = c.loop-i.i in
     let s = c.args.clock.bytes.now in
     let less : i < length (clock_in s) = omega (arith, c.span-i-end.ensures.is) in
-    let read : c.in-Some.n ≡ get_or (clock_in s) i 0 = c.in-Some.ensures.1 ∙ ap number_in c.split-at.ensures.back ∙ count_at i s less in
-    c.in-ok-push.ensures.items ∙ (λ j. c.loop-i.invariant j ++ (read j ∷ [])) ∙ sym (take_more (clock_in s) i 0 less)
+    let read : c.in-Some.n ≡ get_or (clock_in s) i 0 = c.in-Some.ensures.1 ∙ ap number_in c.split_at.ensures.back ∙ count_at i s less in
+    c.in_ok-push.ensures.items ∙ (λ j. c.loop-i.invariant j ++ (read j ∷ [])) ∙ sym (take_more (clock_in s) i 0 less)
 
 pub returns : goal.returns
 unfolding span

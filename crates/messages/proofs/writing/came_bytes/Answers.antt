@@ -9,8 +9,8 @@ use Rattle.messages.proofs.writing.came_bytes.Goals as goal
 pub returns : goal.returns
 returns c =
     let put = c.args.put.now in
-    let write = c.write-came-end in
-    let v : c.as-slice-value.result.now ≡ vec_items put.value = c.as-slice-value.ensures.value in
-    let s : c.as-slice-seen.result.now ≡ vec_items put.seen = c.as-slice-seen.ensures.value in
-    let all = with_items_is c.in-ok-bytes.bytes write.new.out (omega (arith, write.auto.out, c.as-mut-slice.ensures.len)) in
+    let write = c.write_came-end in
+    let v : c.as_slice-value.result.now ≡ vec_items put.value = c.as_slice-value.ensures.value in
+    let s : c.as_slice-seen.result.now ≡ vec_items put.seen = c.as_slice-seen.ensures.value in
+    let all = with_items_is c.in_ok-bytes.bytes write.new.out (omega (arith, write.auto.out, c.as_mut_slice.ensures.len)) in
     said_of _ _ c.written.result (λ j. write_event (came (record { from = put.from; seen = s j; body = text put.key (v j) }))) (cut_off _ _ _ _ _ _ write.ensures all c.written.ensures)

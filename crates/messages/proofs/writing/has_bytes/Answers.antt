@@ -5,6 +5,6 @@ use Rattle.messages.proofs.writing.has_bytes.Goals as goal
 
 pub returns : goal.returns
 returns c =
-    let write = c.write-has-end in
-    let all = with_items_is c.in-ok-bytes.bytes write.new.out (omega (arith, write.auto.out, c.as-mut-slice.ensures.len)) in
+    let write = c.write_has-end in
+    let all = with_items_is c.in_ok-bytes.bytes write.new.out (omega (arith, write.auto.out, c.as_mut_slice.ensures.len)) in
     cut_off _ _ _ _ _ _ write.ensures all c.written.ensures

@@ -5,5 +5,5 @@ use Rattle.player.proofs.replicas.opened.Goals as goal
 
 pub returns-in-Ok : goal.returns-in-Ok
 returns-in-Ok c =
-    let all = with_items_is c.in-ok-memory.memory c.open.new.mem (omega (arith, c.open.auto.mem, c.as-mut-slice.ensures.len)) in
-    subst (New c.args.limits c.args.me) (sym all) (record { lent = c.as-mut-slice.result.now; opened = c.in-Ok.ensures.1 })
+    let all = with_items_is c.in_ok-memory.memory c.open.new.mem (omega (arith, c.open.auto.mem, c.as_mut_slice.ensures.len)) in
+    subst (New c.args.limits c.args.me) (sym all) (record { lent = c.as_mut_slice.result.now; opened = c.in-Ok.ensures.1 })

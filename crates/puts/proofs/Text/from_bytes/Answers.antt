@@ -7,7 +7,7 @@ returns c =
     record {
       value = (
         omega arith,
-        ap (λ x. record { len = length c.args.bytes.now; bytes = x }) (copied_pad 64 c.args.bytes.now _ c.copy-from-slice.ensures.after (omega arith)),
+        ap (λ x. record { len = length c.args.bytes.now; bytes = x }) (copied_pad 64 c.args.bytes.now _ c.copy_from_slice.ensures.after (omega arith)),
       );
-      bytes = λ i. omega (arith, c.type-inv.bytes i);
+      bytes = λ i. omega (arith, c.type_inv.bytes i);
     }

@@ -9,7 +9,7 @@ pub loop-k-preserved : goal.loop-k-preserved
 unfolding pack_at
 loop-k-preserved c = (
   length-set _ _ _ ∙ c.loop-k.invariant.0,
-  simp c.word-at.ensures (fill_by_more (pack_at c.args.bytes.now) c.loop-k.words c.loop-k.k 0 (omega arith) c.loop-k.invariant.1),
+  simp c.word_at.ensures (fill_by_more (pack_at c.args.bytes.now) c.loop-k.words c.loop-k.k 0 (omega arith) c.loop-k.invariant.1),
 )
 
 pub returns : goal.returns

@@ -4,5 +4,5 @@ use Rattle.puts.proofs.words.write_put.Goals as goal
 
 pub returns : goal.returns
 returns c =
-    put_laid _ _ _ _ _ c.args.p.now c.requires (omega arith) c.copy-from-slice.ensures.after c.copy-from-slice-2.ensures.after
-    (c.copy-from-slice-3.ensures.after ∙ c.pack.ensures) c.copy-from-slice-4.ensures.after
+    put_laid _ _ _ _ _ c.args.p.now c.requires (omega arith) c.copy_from_slice.ensures.after c.copy_from_slice-2.ensures.after
+    (c.copy_from_slice-3.ensures.after ∙ c.pack.ensures) c.copy_from_slice-4.ensures.after

@@ -2,9 +2,9 @@ use Rattle.std.proofs.Common.{rules}
 use Rattle.wire.specs.Answers.{read_answer}
 use Rattle.wire.proofs.answers.by_number.Goals as goal
 
-pub returns-in-default : goal.returns-in-default
+pub returns-in_default : goal.returns-in_default
 unfolding read_answer
-returns-in-default c = search rules
+returns-in_default c = search rules
 
 pub returns-in-0 : goal.returns-in-0
 unfolding read_answer
@@ -22,6 +22,6 @@ pub returns-in-3 : goal.returns-in-3
 unfolding read_answer
 returns-in-3 c = search rules
 
-pub returns-in-default-tag : goal.returns-in-default-tag
+pub returns-in_default-tag : goal.returns-in_default-tag
 unfolding read_answer
-returns-in-default-tag c = search rules
+returns-in_default-tag c = search rules

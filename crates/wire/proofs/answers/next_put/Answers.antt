@@ -2,9 +2,9 @@ use Rattle.std.proofs.Common.{rules}
 use Rattle.wire.specs.Answers.{next_put}
 use Rattle.wire.proofs.answers.next_put.Goals as goal
 
-pub returns-in-default : goal.returns-in-default
+pub returns-in_default : goal.returns-in_default
 unfolding next_put
-returns-in-default c = search rules
+returns-in_default c = search rules
 
 pub returns-then-bytes-eq1 : goal.returns-then-bytes-eq1
 unfolding next_put
@@ -18,9 +18,9 @@ pub returns-then-marker-ne1 : goal.returns-then-marker-ne1
 unfolding next_put
 returns-then-marker-ne1 c = search rules
 
-pub returns-in-default-number : goal.returns-in-default-number
+pub returns-in_default-number : goal.returns-in_default-number
 unfolding next_put
-returns-in-default-number c = search rules
+returns-in_default-number c = search rules
 
 pub returns : goal.returns
 unfolding next_put

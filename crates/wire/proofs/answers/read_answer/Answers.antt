@@ -5,5 +5,5 @@ use Rattle.wire.proofs.answers.read_answer.Goals as goal
 
 pub returns : goal.returns
 returns c =
-    let is = c.by-number.ensures in
-    record { is = is; right = answer_right _ _ (bytes_each c.args.bytes.now (λ i. omega (arith, c.type-inv.bytes i))) is }
+    let is = c.by_number.ensures in
+    record { is = is; right = answer_right _ _ (bytes_each c.args.bytes.now (λ i. omega (arith, c.type_inv.bytes i))) is }

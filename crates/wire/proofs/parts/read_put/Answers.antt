@@ -2,17 +2,17 @@ use Rattle.std.proofs.Common.{rules}
 use Rattle.wire.specs.Reading.{read_put}
 use Rattle.wire.proofs.parts.read_put.Goals as goal
 
-pub returns-in-default : goal.returns-in-default
+pub returns-in_default : goal.returns-in_default
 unfolding read_put
-returns-in-default c = search rules
+returns-in_default c = search rules
 
-pub returns-in-Ok-read-body : goal.returns-in-Ok-read-body
+pub returns-in-Ok-read_body : goal.returns-in-Ok-read_body
 unfolding read_put
-returns-in-Ok-read-body c = search rules
+returns-in-Ok-read_body c = search rules
 
-pub returns-in-Err-read-body : goal.returns-in-Err-read-body
+pub returns-in-Err-read_body : goal.returns-in-Err-read_body
 unfolding read_put
-returns-in-Err-read-body c = search rules
+returns-in-Err-read_body c = search rules
 
 pub returns-in-Err : goal.returns-in-Err
 unfolding read_put

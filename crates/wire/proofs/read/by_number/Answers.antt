@@ -2,9 +2,9 @@ use Rattle.std.proofs.Common.{rules}
 use Rattle.wire.specs.Reading.{read_event}
 use Rattle.wire.proofs.read.by_number.Goals as goal
 
-pub returns-in-default : goal.returns-in-default
+pub returns-in_default : goal.returns-in_default
 unfolding read_event
-returns-in-default c = search rules
+returns-in_default c = search rules
 
 pub returns-then-tag-gt4 : goal.returns-then-tag-gt4
 unfolding read_event

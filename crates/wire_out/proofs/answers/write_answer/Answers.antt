@@ -6,4 +6,4 @@ use Rattle.wire_out.proofs.answers.write_answer.Goals as goal
 
 pub returns-in-Refused : goal.returns-in-Refused
 returns-in-Refused c =
-    subst (λ a. Written c.write-refused.result c.args.out.now c.write-refused.new.out (write_answer (answer a))) (sym c.in-Refused.is) c.write-refused.ensures
+    subst (λ a. Written c.write_refused.result c.args.out.now c.write_refused.new.out (write_answer (answer a))) (sym c.in-Refused.is) c.write_refused.ensures

@@ -3,4 +3,4 @@ use Rattle.wire_out.proofs.Overs.{then_wrote, wrote_first}
 use Rattle.wire_out.proofs.answers.write_refused.Goals as goal
 
 pub returns : goal.returns
-returns c = wrote_first (then_wrote c.put-bytes-tag.ensures (then_wrote c.put-number-number.ensures c.put-number.ensures (omega arith)) (omega arith))
+returns c = wrote_first (then_wrote c.put_bytes-tag.ensures (then_wrote c.put_number-number.ensures c.put_number.ensures (omega arith)) (omega arith))

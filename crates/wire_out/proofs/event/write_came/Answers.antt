@@ -3,4 +3,4 @@ use Rattle.wire_out.proofs.Overs.{then_wrote, wrote_first}
 use Rattle.wire_out.proofs.event.write_came.Goals as goal
 
 pub returns : goal.returns
-returns c = wrote_first (then_wrote c.put-bytes-tag.ensures c.put-put.ensures (omega arith))
+returns c = wrote_first (then_wrote c.put_bytes-tag.ensures c.put_put.ensures (omega arith))

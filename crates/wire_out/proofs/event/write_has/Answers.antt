@@ -3,4 +3,4 @@ use Rattle.wire_out.proofs.Overs.{then_wrote, wrote_first}
 use Rattle.wire_out.proofs.event.write_has.Goals as goal
 
 pub returns : goal.returns
-returns c = wrote_first (then_wrote c.put-bytes-tag.ensures (then_wrote c.put-number-head.ensures c.put-clock.ensures (omega arith)) (omega arith))
+returns c = wrote_first (then_wrote c.put_bytes-tag.ensures (then_wrote c.put_number-head.ensures c.put_clock.ensures (omega arith)) (omega arith))

@@ -11,7 +11,7 @@ loop-put-preserved c =
     let ps = c.args.puts.now in
     let i : ℕ = c.loop-put.put-index in
     let less : i < length ps = omega arith in
-    capped_next _ _ _ (flat_map item (take i ps)) _ c.item-len.ensures c.loop-put.invariant c.saturating-add-len.ensures ∙ ap (λ l. capped (suc (length l))) (sym (joined_next item ps i _ less))
+    capped_next _ _ _ (flat_map item (take i ps)) _ c.item_len.ensures c.loop-put.invariant c.saturating_add-len.ensures ∙ ap (λ l. capped (suc (length l))) (sym (joined_next item ps i _ less))
 
 pub returns : goal.returns
 returns c =

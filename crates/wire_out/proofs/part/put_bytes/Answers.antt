@@ -10,4 +10,4 @@ returns c =
     let w = c.args.part.now in
     let k : c.args.at + length w - c.args.at ≡ length w = omega arith in
     let end = ap (λ n. drop n (drop c.args.at s)) k ∙ drop-drop (length w) c.args.at s in
-    record { end = refl; bytes = λ i. take c.args.at s ++ (c.copy-from-slice.ensures.after i ++ end i) }
+    record { end = refl; bytes = λ i. take c.args.at s ++ (c.copy_from_slice.ensures.after i ++ end i) }

@@ -20,7 +20,7 @@ loop-n-preserved c =
     let i : ℕ = c.loop-n.n-index in
     let less : i < length cs = omega arith in
     let long : length (write_counts (take i cs)) ≡ 9 * i = length_counts (take i cs) ∙ ap (λ k. 9 * k) (length-take-le i cs (omega arith)) in
-    let one = then_wrote c.put-bytes-to.ensures c.put-number-to.ensures (omega arith) in
+    let one = then_wrote c.put_bytes-to.ensures c.put_number-to.ensures (omega arith) in
     (omega (arith, one.end), wrote_as (then_wrote c.loop-n.invariant.1 one (omega arith)) (counts-push (take i cs) (get_or cs i 0) ∙ ap write_counts (sym (take_more cs i 0 less))))
 
 pub returns : goal.returns

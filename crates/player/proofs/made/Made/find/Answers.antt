@@ -16,7 +16,7 @@ pub returns-in-Some : goal.returns-in-Some
 returns-in-Some c =
     let all = c.args.self.now.puts in
     let x = c.in-Some.ensures.lookup in
-    found (vec_items all) c.args.maker c.args.number _ c.index.result.now c.deref.result.now c.in-Some.bytes.now _ (omega (arith, all.ok.0, c.len.ensures)) c.index.ensures c.deref.ensures.value (omega arith) x.3.0 x.1 c.as-slice.ensures.value
+    found (vec_items all) c.args.maker c.args.number _ c.index.result.now c.deref.result.now c.in-Some.bytes.now _ (omega (arith, all.ok.0, c.len.ensures)) c.index.ensures c.deref.ensures.value (omega arith) x.3.0 x.1 c.as_slice.ensures.value
 
 pub returns-in-None : goal.returns-in-None
 returns-in-None c =
