@@ -30,7 +30,7 @@ def main(crates):
             text = re.sub(r"//[^\n]*|\"(?:[^\"\\]|\\.)*\"", "", read(path))
             idents |= set(IDENT.findall(text))
         idents |= {"in_default", "in_ok", "in_err", "in_some", "in_none", "type_inv"}
-        forms = sorted({i.replace("_", "-"): i for i in idents if i.lower() == i or i[0].islower()}.items(), key=lambda x: -len(x[0]))
+        forms = sorted({i.replace("_", "-"): i for i in idents}.items(), key=lambda x: -len(x[0]))
         for path in files(crate, ".antt"):
             if len(path.split(os.sep)) < 5 or "specs" in path.split(os.sep)[2]:
                 continue

@@ -12,7 +12,7 @@ returns-in-Some-End-next_put c = value_one c.args.bytes.now (put_of c.in-Some-Mo
 pub returns-in-Some-More-next_put : goal.returns-in-Some-More-next_put
 returns-in-Some-More-next_put c =
     value_two c.args.bytes.now (put_of c.in-Some-More.put) c.in-Some-More.rest.bytes.now (search rules)
-    (put_of c.in-Some-More-next_put.-second) c.in-Some-More-next_put.-others.bytes.now (search rules)
+    (put_of c.in-Some-More-next_put._second) c.in-Some-More-next_put._others.bytes.now (search rules)
 
 pub returns-in-None-next_put : goal.returns-in-None-next_put
 returns-in-None-next_put c = value_broken c.args.bytes.now (put_of c.in-Some-More.put) c.in-Some-More.rest.bytes.now (search rules) (search rules)
