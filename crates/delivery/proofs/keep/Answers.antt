@@ -21,7 +21,7 @@ loop-i-preserved c = elim c.if-not-had_at.branch [
         let base = w.waiting.0 in
         let sl = all_length l r v g.slots (size l r v _ _ _ g) in
         let b = sym (read_here l r v _ _ _ i _ _ (ap (λ x. x + i) base) h g (λ rs ss q x. c.had_at.ensures rs ss q x) k) ∙ t.if-not-had_at.true in
-        let m = t.mem_is ∙ t.move_slot.ensures _ _ (long l r v) (omega (arith, v.delivery.room)) (omega (arith, v.delivery.room)) g.mem
+        let m = t.mem-is ∙ t.move_slot.ensures _ _ (long l r v) (omega (arith, v.delivery.room)) (omega (arith, v.delivery.room)) g.mem
         ∙ ap (λ x. memory (rows l r.delivery) (set (front l r ++ g.slots) (c.args.at.layout.waiting.base + c.loop-i.stay) x)) (moved_at l r v _ _ i _ (ap (λ x. x + i) base) h g) in
         let P : ℕ → Type 0 = λ x. Moved l r c.if-not-had_at.mem (i + 1) x in
         subst P (sym t.stay-is) (moved_stays l r v _ _ _ i c.loop-i.stay (ap (λ x. x + c.loop-i.stay) base) h b g m),
@@ -36,7 +36,7 @@ loop-i-preserved c = elim c.if-not-had_at.branch [
         let b = sym (read_here l r v _ _ _ i _ _ (ap (λ x. x + i) w.waiting.0) h g (λ rs ss q x. c.had_at.ensures rs ss q x) k) ∙ t.if-not-had_at.false in
         let P : List ℕ → Type 0 = λ x. Moved l r x (i + 1) c.loop-i.stay in
         let Q : ℕ → Type 0 = λ x. Moved l r c.if-not-had_at.mem (i + 1) x in
-        subst Q (sym t.stay-is) (subst P (sym t.mem_is) (moved_goes l r v _ i c.loop-i.stay h b g)),
+        subst Q (sym t.stay-is) (subst P (sym t.mem-is) (moved_goes l r v _ i c.loop-i.stay h b g)),
   )
 ]
 

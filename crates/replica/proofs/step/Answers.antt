@@ -34,11 +34,11 @@ returns-in_default-in_range c = record {
   foreign = λ f. absurd (f (subst (λ (x : Limits × ℕ). Room x.0 x.1 c.args.mem.now) c.in-Ok.ensures.any.0 c.in-Ok.ensures.any.1));
 }
 
-pub slice-bounds-act-end : goal.slice-bounds-act-end
-slice-bounds-act-end c = omega (arith, words_are c.in-Ok.limits c.in-Ok.me c.new-at.result c.new-at.ensures.laid, c.in-Ok.ensures.any.1.words)
+pub slice_bounds-act-end : goal.slice_bounds-act-end
+slice_bounds-act-end c = omega (arith, words_are c.in-Ok.limits c.in-Ok.me c.new-at.result c.new-at.ensures.laid, c.in-Ok.ensures.any.1.words)
 
-pub slice-bounds-act-end-2 : goal.slice-bounds-act-end-2
-slice-bounds-act-end-2 c =
+pub slice_bounds-act-end-2 : goal.slice_bounds-act-end-2
+slice_bounds-act-end-2 c =
     let within : (512 + 32 * (c.new-at.result.layout.waiting.base + c.new-at.result.layout.waiting.count)) ≤ length c.args.mem.now = omega (arith, words_are c.in-Ok.limits c.in-Ok.me c.new-at.result c.new-at.ensures.laid, c.in-Ok.ensures.any.1.words) in
     sym (length-take-le (512 + 32 * (c.new-at.result.layout.waiting.base + c.new-at.result.layout.waiting.count)) c.args.mem.now within)
 

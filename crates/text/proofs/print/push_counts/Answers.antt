@@ -8,7 +8,7 @@ unfolding counts_text
 counts-pieces = record { none = refl; more = λ n ns. refl }
 
 pub loop-count-preserved : goal.loop-count-preserved
-loop-count-preserved c = print_more counts-pieces _ _ 0 _ _ c.loop-count.count_index c.loop-count-test.true c.in_ok-write.ensures.bytes c.loop-count.invariant
+loop-count-preserved c = print_more counts-pieces _ _ 0 _ _ c.loop-count.count-index c.loop-count-test.true c.in_ok-write.ensures.bytes c.loop-count.invariant
 
 pub returns : goal.returns
-returns c = print_all counts-pieces _ _ 0 _ c.loop-count.count_index c.loop-count-test.false c.loop-count.invariant
+returns c = print_all counts-pieces _ _ 0 _ c.loop-count.count-index c.loop-count-test.false c.loop-count.invariant
