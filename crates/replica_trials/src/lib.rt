@@ -67,7 +67,7 @@ mod tests {
     // The replica and the only byte of what stands at key 0.
     fn shows(mem: &mut [u64], from: u64, value: u8) -> bool {
         match step(mem, &GET) {
-            Answer::Value { put } => put.from == from && put.text.as_bytes() == [value],
+            Answer::Value { put } => put.from == from && put.text.as_bytes() == [value].as_slice(),
             _ => false,
         }
     }
