@@ -1,11 +1,11 @@
 -- Counts in range, one after the other; and a clock of sixteen counts for one of fewer.
-use Rattle.std.proofs.Common.{◌≡◌, ℕ, zero, suc, ◌+◌, ◌-◌, ◌<◌, ◌≤◌, Bool, true, false, ◌&&◌, eqb, ltb, leb, List, [], ◌∷◌, ◌++◌, length, get_or, drop, replicate, Some, None, Option, sym, refl, ap, ◌∙◌, subst, arith, lt-ltb, eq-eqb, le-leb}
+use Rattle.std.proofs.Common.{◌≡◌, ℕ, zero, suc, ◌+◌, ◌-◌, ◌<◌, ◌≤◌, Bool, true, false, ◌&&◌, eqb, ltb, leb, List, [], ◌∷◌, ◌++◌, length, get_or, drop, replicate, sym, refl, ap, ◌∙◌, subst, arith, lt-ltb, eq-eqb, le-leb}
 use borrow.Author.Tests.{clash}
 use Rattle.std.proofs.lemmas.List.{drop_all, drop_more}
 use Rattle.std.proofs.lemmas.Bool.Decides.{nat_tests}
 use Rattle.model.specs.Clock.{Clock, good_clock, small}
 use Rattle.model.specs.Limits.{Limits, count_bound}
-use Rattle.puts.specs.Values.{code_clock, pad}
+use Rattle.puts.specs.Values.{pad}
 use Rattle.puts.proofs.Padded.{pad_is}
 
 small_step : (xs : List ℕ) (i : ℕ) → i < length xs → small (drop i xs) ≡ (ltb (get_or xs i 0) count_bound && small (drop (i + 1) xs))

@@ -1,7 +1,6 @@
 -- Events by value, and what a range check hands on. Definitions only.
-use Rattle.std.specs.Prelude.{◌≡◌, ℕ, Bool, true, false, ◌&&◌, leb, List, length, Some, None, Option}
-use Rattle.model.specs.Limits.{Limits, value_most}
-use Rattle.model.specs.Put.{Put, Body, text, key_of, value_of}
+use Rattle.std.specs.Prelude.{◌≡◌, Bool, true, false, Some, None, Option}
+use Rattle.model.specs.Put.{key_of, value_of}
 use Rattle.model.specs.Replica as model
 use Rattle.puts.specs.Values.{code_clock, code_text, code_put}
 use Rattle.ranges.specs.declared.Checked.{Checked}

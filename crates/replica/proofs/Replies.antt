@@ -1,11 +1,11 @@
 -- Told clocks, and the puts of a reply one by one.
-use Rattle.std.proofs.Common.{◌≡◌, ℕ, zero, suc, ◌<◌, ◌≤◌, Bool, true, false, ◌&&◌, eqb, ltb, leb, List, [], ◌∷◌, length, get_or, take, drop, Some, None, Option, sym, refl, ap, ◌∙◌, subst, inl, inr, arith, ltb-true, le-leb}
+use Rattle.std.proofs.Common.{◌≡◌, ℕ, zero, suc, ◌<◌, ◌≤◌, Bool, true, false, ◌&&◌, ltb, List, [], ◌∷◌, length, take, drop, Some, None, Option, sym, refl, ap, ◌∙◌, subst, inl, inr, arith, ltb-true, le-leb}
 use borrow.Author.Tests.{lt-leb}
 use Rattle.model.specs.Lists.{In}
-use Rattle.model.specs.Limits.{Limits, count_bound, reply_most}
-use Rattle.model.specs.Clock.{Clock, at, good_clock, small}
+use Rattle.model.specs.Limits.{Limits, reply_most}
+use Rattle.model.specs.Clock.{Clock, at, good_clock}
 use Rattle.model.specs.Put.{Put, Body}
-use Rattle.model.specs.Delivery.{Delivery, reply}
+use Rattle.model.specs.Delivery.{reply}
 use Rattle.model.specs.Replica.{Replica, has, in_range, possible}
 use Rattle.model.proofs.Steps.{in_reply}
 use Rattle.puts.specs.Values.{Small, clock_size, code_clock, code_put}
@@ -17,7 +17,7 @@ use Rattle.memory.specs.State.{own_count}
 use Rattle.memory.specs.Valid.{AllSound, Sound, Valid}
 use Rattle.memory.proofs.Sound.{clock_fits}
 use Rattle.logs.specs.State.{nth_of}
-use Rattle.replica.specs.Answered.{one_put, some_puts}
+use Rattle.replica.specs.Answered.{some_puts}
 use Rattle.replica.proofs.Acts.{back}
 
 -- THE CLOCK THAT WAS TOLD

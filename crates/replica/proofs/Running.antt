@@ -1,13 +1,13 @@
 -- A program after any events, by induction over them.
-use Rattle.std.proofs.Common.{◌≡◌, ℕ, ◌+◌, ◌*◌, ◌^◌, ◌<◌, ◌≤◌, Bool, true, ◌&&◌, ltb, List, [], ◌∷◌, ◌++◌, length, drop, Ok, Err, Result, sym, refl, ap, ◌∙◌, subst, arith, MatchResult}
+use Rattle.std.proofs.Common.{◌≡◌, ℕ, ◌+◌, ◌*◌, ◌<◌, ◌≤◌, true, ◌&&◌, List, [], ◌∷◌, ◌++◌, length, Ok, Err, Result, sym, refl, ap, ◌∙◌, subst, arith}
 use Rattle.std.proofs.lemmas.Bool.{lt-ltb, and_parts}
 use Rattle.std.proofs.lemmas.List.{append-nil, drop_all}
 use Rattle.std.specs.List.{AllByRecursion as All}
 use Rattle.model.specs.Limits.{Limits, GoodLimits}
 use Rattle.model.specs.Program.{Program, memory, readable, all_readable, all_below, word_bound, AnswersRight, RefusalKeepsMemory, MemoryBounded}
-use Rattle.model.specs.Replica.{Replica, Event, answer, after, new_replica, refusal, replica}
+use Rattle.model.specs.Replica.{Replica, Event, answer, new_replica, refusal, replica}
 use Rattle.model.proofs.Replica.{refusal_changes_nothing}
-use Rattle.memory.specs.Layout.{InRange, Room, code_limits, limits_at, model_limits, out_of_range, total, words}
+use Rattle.memory.specs.Layout.{InRange, Room, code_limits, total}
 use Rattle.memory.specs.Image.{encode}
 use Rattle.memory.specs.Valid.{Valid}
 use Rattle.memory.specs.Laws.{Opened, Opening}
@@ -16,11 +16,9 @@ use Rattle.memory.specs.declared.Refusal.{Refusal}
 use Rattle.memory.proofs.Images.{encode_length}
 use Rattle.memory.proofs.Sound.{words_fit}
 use Rattle.memory.proofs.Starts.{header_says}
-use Rattle.wire.specs.Bytes.{write_event}
-use Rattle.wire.specs.Reading.{read}
 use Rattle.wire.proofs.Events.{reads_back}
 use Rattle.replica.specs.Answered.{Stepped, says_in}
-use Rattle.replica.specs.Running.{Called, Runs, all_events}
+use Rattle.replica.specs.Running.{Runs, all_events}
 
 -- the memory is the image of a valid state, and nothing beyond it
 record Holding (l : Limits) (r : Replica) (m : List ℕ) : Type 0 where

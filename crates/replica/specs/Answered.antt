@@ -1,5 +1,5 @@
 -- What an answer of the code says, and what an event does to a replica in its memory. Definitions only.
-use Rattle.std.specs.Prelude.{◌≡◌, ℕ, ◌<◌, Bool, true, List, [], ◌∷◌, ◌++◌, take, Some, None, Option}
+use Rattle.std.specs.Prelude.{◌≡◌, ℕ, true, List, [], ◌∷◌, ◌++◌, take, Some, None, Option}
 use Rattle.model.specs.Limits.{Limits}
 use Rattle.model.specs.Put as model
 use Rattle.model.specs.Replica.{Replica, Event, Answer as ModelAnswer, refused, puts, value, clock_is, answer, after}

@@ -1,13 +1,12 @@
 -- What a text in several parts is read as, by what its parts are read as.
-use Rattle.std.proofs.Common.{◌≡◌, ℕ, ◌<◌, List, [], ◌∷◌, ◌++◌, length, get_or, drop, Some, None, vec_items, decimal, Option, Vec, sym, refl, ap, ◌∙◌, subst, arith}
+use Rattle.std.proofs.Common.{◌≡◌, ℕ, ◌<◌, List, [], ◌∷◌, ◌++◌, length, get_or, drop, Some, None, vec_items, decimal, Option, sym, refl, ap, ◌∙◌, subst, arith}
 use Rattle.std.specs.Option.{option_map}
-use Rattle.std.specs.declared.alloc.Global.{Global}
 use Rattle.std.specs.List.{AllByRecursion as All}
 use Rattle.text.specs.Printed.{put_text}
 use Rattle.text.specs.declared.event.Put.{Put}
-use Rattle.words.specs.Text.{Bytes, Reads, Word, Words, counts_text, numbers_text, value_text}
+use Rattle.words.specs.Text.{Bytes, Reads, Word, Words, numbers_text, value_text}
 use Rattle.words.proofs.Spaces.{Cut, NoSpace, cut_parts, decimal_no_space, has_space, value_no_space}
-use Rattle.script.specs.Events.{CanPair, CanPut, CanTwo, keyed, two_text}
+use Rattle.script.specs.Events.{CanPut}
 
 -- what was read of a Vec, as none or one
 module _ {A V : Type 0} (text : A → List ℕ) (Can : A → Type 0) (w : List ℕ) (items : V → A) where

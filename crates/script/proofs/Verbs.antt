@@ -1,5 +1,5 @@
 -- What a text is read as, by its first word.
-use Rattle.std.proofs.Common.{◌≡◌, ℕ, Bool, true, false, not, ◌&&◌, eqb, List, [], ◌∷◌, ◌++◌, get_or, None, vec_items, codes, decimal, Vec, sym, refl, ap, ◌∙◌, arith, eq-eqb}
+use Rattle.std.proofs.Common.{◌≡◌, ℕ, Bool, true, false, not, ◌&&◌, eqb, List, [], ◌∷◌, ◌++◌, get_or, vec_items, codes, decimal, Vec, sym, refl, ap, ◌∙◌, arith, eq-eqb}
 use borrow.Author.Tests.{clash}
 use Rattle.std.proofs.lemmas.Fmt.{decimal_nonempty, digits_decimal}
 use Rattle.std.proofs.lemmas.Slice.Eq.{bytes_eq-Decides}
@@ -10,7 +10,7 @@ use Rattle.text.specs.Printed.{event_words, put_text}
 use Rattle.text.specs.declared.event.Event.{Event}
 use Rattle.text.specs.declared.event.Event.TheVariants.{Put as Put', Get, Came, Has, Tell}
 use Rattle.text.specs.declared.event.Put.{Put}
-use Rattle.words.specs.Text.{Bytes, Reads, Word, numbers_text, value_text}
+use Rattle.words.specs.Text.{Bytes, Word, numbers_text, value_text}
 use Rattle.words.proofs.Decimals.{own}
 use Rattle.words.proofs.Spaces.{Cut, NoSpace, cut_parts, decimal_no_space, has_space}
 use Rattle.script.specs.Commands.{CanCommand, CanDeed, CanLimits, command_text, deed_words, limits_text}

@@ -1,5 +1,5 @@
 -- Which events a script can hold, and the text of their parts. Definitions only.
-use Rattle.std.specs.Prelude.{ℕ, List, [], ◌∷◌, ◌++◌, vec_items, codes, decimal, Vec}
+use Rattle.std.specs.Prelude.{ℕ, List, ◌++◌, vec_items, codes, decimal, Vec}
 use Rattle.std.specs.declared.alloc.Global.{Global}
 use Rattle.std.specs.List.{AllByRecursion as All}
 use Rattle.text.specs.declared.event.Event.{Event}

@@ -1,6 +1,5 @@
 use Rattle.std.proofs.Common.{leb, sym, ◌∙◌}
 use Rattle.model.specs.Clock.{at}
-use Rattle.model.specs.Put.{number}
 use Rattle.puts.proofs.Padded.{getD_pad}
 use Rattle.delivery.proofs.Reading.{none_some, some_some, head_there}
 use Rattle.delivery.proofs.had_at.Goals as goal

@@ -1,4 +1,4 @@
-use Rattle.std.proofs.Common.{◌≡◌, length, drop}
+use Rattle.std.proofs.Common.{◌≡◌, drop}
 use Rattle.model.specs.Clock.{small}
 use Rattle.ranges.proofs.all_small.Given as goal
 

@@ -1,4 +1,4 @@
-use Rattle.std.proofs.Common.{◌≡◌, ◌-◌, true, false, sym, ap, ◌∙◌}
+use Rattle.std.proofs.Common.{◌-◌, true, false, sym, ap, ◌∙◌}
 use Rattle.model.specs.Clock.{small}
 use Rattle.wire.specs.Reading.{clock_in}
 use Rattle.ranges.proofs.Counts.{a_clock, no_clock, sixteen, small_padded}

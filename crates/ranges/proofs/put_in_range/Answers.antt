@@ -1,4 +1,4 @@
-use Rattle.std.proofs.Common.{◌≡◌, ◌≤◌, ltb, length, ap, ◌∙◌, arith}
+use Rattle.std.proofs.Common.{◌≤◌, ltb, length, ap, ◌∙◌, arith}
 use Rattle.model.specs.Clock.{at}
 use Rattle.wire.specs.Reading.{clock_in}
 use Rattle.wire.specs.Said.{put_of}

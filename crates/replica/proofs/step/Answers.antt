@@ -1,8 +1,7 @@
-use Rattle.std.proofs.Common.{◌≡◌, ℕ, ◌+◌, ◌*◌, ◌≤◌, true, length, take, sym, refl, ap, ◌∙◌, subst, arith}
+use Rattle.std.proofs.Common.{◌≡◌, ℕ, ◌+◌, ◌*◌, ◌≤◌, length, sym, refl, ap, ◌∙◌, subst, arith}
 use Rattle.std.proofs.lemmas.List.{length-take-le}
-use Rattle.model.specs.Program.{readable}
-use Rattle.model.specs.Replica.{in_range, legible, refused}
-use Rattle.memory.specs.Layout.{Room, code_limits, limits_at, me_at, total}
+use Rattle.model.specs.Replica.{refused}
+use Rattle.memory.specs.Layout.{Room, code_limits, total}
 use Rattle.memory.specs.declared.Limits.{Limits}
 use Rattle.logs.specs.State.{Laid}
 use Rattle.wire.specs.Reading.{read}

@@ -1,4 +1,4 @@
-use Rattle.std.proofs.Common.{◌≡◌, codes, decimal, sym, refl, ap, ◌∙◌}
+use Rattle.std.proofs.Common.{codes, decimal, sym, ◌∙◌}
 use borrow.Author.Tests.{clash}
 use Rattle.words.proofs.Spaces.{cut_at, uncut}
 use Rattle.script.specs.Commands.{CanDeed, CanLimits, deed_words, limits_text}

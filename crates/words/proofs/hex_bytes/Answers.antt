@@ -1,7 +1,7 @@
-use Rattle.std.proofs.Common.{◌≡◌, ◌+◌, ◌*◌, ◌<◌, ◌≤◌, [], length, vec_items, sym, refl, ap, ◌∙◌, subst, arith}
+use Rattle.std.proofs.Common.{◌*◌, ◌≤◌, length, vec_items, sym, refl, ap, ◌∙◌, arith}
 use Rattle.std.proofs.ByRecursion.{All-push}
 use Rattle.std.proofs.lemmas.List.{take_all}
-use Rattle.words.specs.Text.{Byte, Bytes, hex}
+use Rattle.words.specs.Text.{Byte, hex}
 use Rattle.words.proofs.Values.{length_hex, hex_more, hex_pair}
 use Rattle.words.proofs.hex_bytes.Goals as goal
 

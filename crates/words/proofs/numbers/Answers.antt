@@ -1,4 +1,4 @@
-use Rattle.std.proofs.Common.{◌≡◌, Some, vec_items, sym, refl, subst, rules}
+use Rattle.std.proofs.Common.{Some, vec_items, sym, refl, subst, rules}
 use Rattle.std.proofs.ByRecursion.{All-push}
 use Rattle.words.specs.Text.{Reads, Word, Words, numbers_text}
 use Rattle.words.proofs.Spaces.{cut_at, fronts, last_number, next_number, no_last, no_next, uncut}

@@ -1,7 +1,7 @@
 use Rattle.std.proofs.Common.{ℕ, vec_items, Vec, refl}
 use Rattle.std.specs.declared.alloc.Global.{Global}
 use Rattle.words.specs.Text.{Bytes, value_text}
-use Rattle.words.proofs.Spaces.{Cut, cut_at, uncut}
+use Rattle.words.proofs.Spaces.{cut_at, uncut}
 use Rattle.script.specs.Events.{keyed}
 use Rattle.script.proofs.Parts.{none_lifted, none_read, one_read, pair_no_first, pair_no_rest, pair_read, pair_uncut}
 use Rattle.script.proofs.read.read_keyed.Goals as goal

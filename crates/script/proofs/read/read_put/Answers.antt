@@ -1,4 +1,4 @@
-use Rattle.std.proofs.Common.{◌≡◌, ◌∷◌, vec_items, ap, ◌∙◌, arith}
+use Rattle.std.proofs.Common.{◌∷◌, vec_items, ap, ◌∙◌}
 use Rattle.words.specs.Text.{Bytes, Words, numbers_text, value_text}
 use Rattle.words.proofs.Spaces.{cut_at, uncut}
 use Rattle.script.proofs.Parts.{first_removed, none_read, one_read, put_no_key, put_no_numbers, put_no_value, put_no_value_end, put_read, put_uncut}

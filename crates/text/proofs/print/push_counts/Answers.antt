@@ -1,4 +1,4 @@
-use Rattle.std.proofs.Common.{◌≡◌, ℕ, ◌∷◌, decimal, refl}
+use Rattle.std.proofs.Common.{◌∷◌, decimal, refl}
 use Rattle.words.specs.Text.{counts_text}
 use Rattle.text.proofs.Prints.{Pieces, print_more, print_all}
 use Rattle.text.proofs.print.push_counts.Goals as goal

@@ -1,6 +1,6 @@
-use Rattle.std.proofs.Common.{◌≡◌, ◌-◌, ◌<◌, ◌++◌, length, get_or, take, drop, string_bytes, codes, sym, refl, ap, ◌∙◌, append-nil, arith, eqb-true}
+use Rattle.std.proofs.Common.{◌<◌, ◌++◌, length, string_bytes, codes, sym, ap, ◌∙◌, append-nil, arith, eqb-true}
 use borrow.Author.Tests.{eqb-false}
-use Rattle.text.specs.Printed.{put_text, more_text, puts_text}
+use Rattle.text.specs.Printed.{put_text}
 use Rattle.text.proofs.Prints.{print_more, print_all, push_then, push_three}
 use Rattle.text.proofs.Puts.{more_pieces, puts_none, puts_some}
 use Rattle.text.proofs.print.push_puts.Goals as goal

@@ -1,4 +1,4 @@
-use Rattle.std.proofs.Common.{◌≡◌, ℕ, [], ◌∷◌, ◌++◌, get_or, string_bytes, sym, refl, ap, ◌∙◌, eq-eqb, eqb-true}
+use Rattle.std.proofs.Common.{[], ◌∷◌, ◌++◌, get_or, string_bytes, sym, refl, ap, ◌∙◌, eq-eqb, eqb-true}
 use borrow.Author.Tests.{clash}
 use Rattle.words.specs.Text.{digits, hex}
 use Rattle.words.proofs.Values.{value_dash, value_hex}
