@@ -1,6 +1,6 @@
 -- Each slot of a valid state is sound, each word of its image is below 2^64, and a put that passes the range checks is sound.
 use Rattle.std.proofs.Common.{◌≡◌, ℕ, zero, suc, ◌-◌, ◌*◌, ◌%◌, ◌^◌, ◌<◌, ◌≤◌, true, ◌&&◌, eqb, ltb, leb, List, [], ◌∷◌, ◌++◌, map, length, get_or, replicate, sym, refl, subst, arith}
-use Rattle.std.specs.List.{flat_map, AllByRecursion as All}
+use Rattle.std.specs.List.{flat_map, AllByRecursion}
 use Rattle.std.proofs.lemmas.Bool.{and_parts, ltb-true, leb-true, eqb-true}
 use Rattle.std.proofs.ByRecursion.{All-append, All-set, All-from_get_or, All-map, All-weaker}
 use Rattle.model.specs.Limits.{Limits, count_bound, value_most}
@@ -21,11 +21,11 @@ use Rattle.memory.specs.Valid.{Sound, SoundSlot, AllSound, Fits, Valid}
 pub no_put : Put Body
 no_put = record { from = 0; seen = []; body = text 0 [] }
 
-all_same : {X : Type 0} (P : X → Type 0) (x : X) → P x → (n : ℕ) → All P (replicate n x)
+all_same : {X : Type 0} (P : X → Type 0) (x : X) → P x → (n : ℕ) → AllByRecursion P (replicate n x)
 all_same P x p zero = tt
 all_same P x p (suc n) = (p, all_same P x p n)
 
-all_joined : {X : Type 0} (P : ℕ → Type 0) (f : X → List ℕ) (xs : List X) → All (λ x. All P (f x)) xs → All P (flat_map f xs)
+all_joined : {X : Type 0} (P : ℕ → Type 0) (f : X → List ℕ) (xs : List X) → AllByRecursion (λ x. AllByRecursion P (f x)) xs → AllByRecursion P (flat_map f xs)
 all_joined P f [] a = tt
 all_joined P f (x ∷ xs) a = All-append P (f x) (flat_map f xs) a.0 (all_joined P f xs a.1)
 
@@ -43,21 +43,21 @@ unfolding SoundSlot FitSlot
 fit_of l [] f = tt
 fit_of l (p ∷ ps) f = f.0.fit
 
-ring_sound : (l : Limits) (n : ℕ) (ps : List (Put Body)) → All (Sound l) ps → All (SoundSlot l) (ring n ps)
+ring_sound : (l : Limits) (n : ℕ) (ps : List (Put Body)) → AllByRecursion (Sound l) ps → AllByRecursion (SoundSlot l) (ring n ps)
 unfolding ring
 ring_sound l n [] a = all_same (SoundSlot l) [] (none_sound l) n
 ring_sound l n (p ∷ ps) a = All-set (SoundSlot l) (ring n ps) (number p % n) (one p) (one_sound l p a.0) (ring_sound l n ps a.1)
 
-queue_sound : (l : Limits) (n : ℕ) (ps : List (Put Body)) → All (Sound l) ps → All (SoundSlot l) (queue n ps)
+queue_sound : (l : Limits) (n : ℕ) (ps : List (Put Body)) → AllByRecursion (Sound l) ps → AllByRecursion (SoundSlot l) (queue n ps)
 unfolding queue
 queue_sound l n ps a =
     All-append (SoundSlot l) (map one ps) (replicate (n - length ps) []) (All-map (SoundSlot l) one ps (All-weaker (Sound l) (λ p. SoundSlot l (one p)) (one_sound l) ps a))
     (all_same (SoundSlot l) [] (none_sound l) (n - length ps))
 
-each_sound : (l : Limits) (ps : List (Put Body)) → AllSound l ps → All (Sound l) ps
+each_sound : (l : Limits) (ps : List (Put Body)) → AllSound l ps → AllByRecursion (Sound l) ps
 each_sound l ps f = All-from_get_or (Sound l) ps no_put (λ i h. f i no_put h)
 
-pub slots_sound : (l : Limits) (r : Replica) → Fits l r → All (SoundSlot l) (slots l r)
+pub slots_sound : (l : Limits) (r : Replica) → Fits l r → AllByRecursion (SoundSlot l) (slots l r)
 unfolding slots
 slots_sound l r v =
     let P : Slot → Type 0 = SoundSlot l in
@@ -70,22 +70,22 @@ slots_sound l r v =
 abbrev Word : ℕ → Type 0
 Word w = w < 2 ^ 64
 
-zeros_fit : (n : ℕ) → All Word (replicate n 0)
+zeros_fit : (n : ℕ) → AllByRecursion Word (replicate n 0)
 zeros_fit n = all_same Word 0 (omega arith) n
 
-row_fits : (c : List ℕ) → length c ≤ row_size → Small c → All Word (pad row_size c)
+row_fits : (c : List ℕ) → length c ≤ row_size → Small c → AllByRecursion Word (pad row_size c)
 row_fits c h s = All-from_get_or Word (pad row_size c) 0 (λ i lt. omega (arith, getD_pad row_size c i h, s i))
 
-slot_fits : (l : Limits) → l.replicas ≤ 16 → l.keys ≤ 4096 → (s : Slot) → SoundSlot l s → All Word (slot_words s)
+slot_fits : (l : Limits) → l.replicas ≤ 16 → l.keys ≤ 4096 → (s : Slot) → SoundSlot l s → AllByRecursion Word (slot_words s)
 unfolding slot_words SoundSlot
 slot_fits l h k [] f = zeros_fit slot_size
 slot_fits l h k (p ∷ ps) f = words_below p f.0.fit f.0.small (omega (arith, f.0.from)) (omega (arith, f.0.key))
 
-sizes_fit : (l : Limits) (r : Replica) → Valid l r → All Word (pad row_size (sizes l r.delivery))
+sizes_fit : (l : Limits) (r : Replica) → Valid l r → AllByRecursion Word (pad row_size (sizes l r.delivery))
 unfolding pad
 sizes_fit l r v =
     let z : Word 0 = omega arith in
-    let zs : All Word (replicate 9 0) = zeros_fit 9 in (
+    let zs : AllByRecursion Word (replicate 9 0) = zeros_fit 9 in (
       omega (arith, v.fits.delivery.room, v.few.waiting),
       (
         omega (arith, v.shaped.room, v.few.log),
@@ -98,27 +98,27 @@ pub no_row : pad row_size [] ≡ replicate row_size 0
 unfolding pad
 no_row = refl
 
-rows_fit : (l : Limits) (r : Replica) → Valid l r → All Word (header (rows l r.delivery))
+rows_fit : (l : Limits) (r : Replica) → Valid l r → AllByRecursion Word (header (rows l r.delivery))
 unfolding header rows
 rows_fit l r v =
     let d : Delivery Body = r.delivery in
     let f = v.fits.delivery in
     let n : ℕ = known_rows - length d.known in
-    let known : All Word (flat_map (pad row_size) d.known) =
+    let known : AllByRecursion Word (flat_map (pad row_size) d.known) =
     all_joined Word (pad row_size) d.known
-    (All-from_get_or (λ c. All Word (pad row_size c)) d.known []
+    (All-from_get_or (λ c. AllByRecursion Word (pad row_size c)) d.known []
     (λ k h. let lk : k < l.replicas = omega (arith, f.known) in row_fits (get_or d.known k []) (omega (arith, f.each k lk, f.replicas)) (f.each_small k lk))) in
-    let P : List ℕ → Type 0 = All Word in
-    let rest : All Word (flat_map (pad row_size) (replicate n [])) = subst P (sym (joined_zeros (pad row_size) row_size [] no_row n)) (zeros_fit (row_size * n)) in
+    let P : List ℕ → Type 0 = AllByRecursion Word in
+    let rest : AllByRecursion Word (flat_map (pad row_size) (replicate n [])) = subst P (sym (joined_zeros (pad row_size) row_size [] no_row n)) (zeros_fit (row_size * n)) in
     All-append Word (pad row_size (sizes l d)) _ (sizes_fit l r v)
     (All-append Word (pad row_size d.clock) _ (row_fits d.clock (omega (arith, f.clock, f.replicas)) f.small)
     (subst P (sym (joined_append (pad row_size) d.known (replicate n []))) (All-append Word (flat_map (pad row_size) d.known) _ known rest)))
 
-pub words_fit : (l : Limits) (r : Replica) → Valid l r → All Word (encode l r)
+pub words_fit : (l : Limits) (r : Replica) → Valid l r → AllByRecursion Word (encode l r)
 unfolding encode
 words_fit l r v =
     All-append Word (header (rows l r.delivery)) (flat_map slot_words (slots l r)) (rows_fit l r v)
-    (all_joined Word slot_words (slots l r) (All-weaker (SoundSlot l) (λ s. All Word (slot_words s)) (slot_fits l v.fits.delivery.replicas v.few.keys.1) (slots l r) (slots_sound l r v.fits)))
+    (all_joined Word slot_words (slots l r) (All-weaker (SoundSlot l) (λ s. AllByRecursion Word (slot_words s)) (slot_fits l v.fits.delivery.replicas v.few.keys.1) (slots l r) (slots_sound l r v.fits)))
 
 -- WHAT PASSES THE RANGE CHECKS FITS
 small_counts : (c : Clock) → small c ≡ true → Small c

@@ -1,6 +1,6 @@
 -- What is proved of the layout and the image.
 use Rattle.std.specs.Prelude.{◌≡◌, ℕ, ◌+◌, ◌*◌, ◌^◌, ◌<◌, Bool, true, List, ◌++◌, length, drop, Result, MatchResult, slice_set}
-use Rattle.std.specs.List.{AllByRecursion as All}
+use Rattle.std.specs.List.{AllByRecursion}
 use Rattle.model.specs.Limits.{Limits}
 use Rattle.model.specs.Put.{Put, Body, value_of}
 use Rattle.model.specs.Replica.{Replica, new_replica, came, in_range}
@@ -24,7 +24,7 @@ ImageSize = (l : Limits) (r : Replica) → Valid l r → length (encode l r) ≡
 
 -- each below 2^64
 abbrev pub WordsFit : Type 0
-WordsFit = (l : Limits) (r : Replica) → Valid l r → All (λ w. w < 2 ^ 64) (encode l r)
+WordsFit = (l : Limits) (r : Replica) → Valid l r → AllByRecursion (λ w. w < 2 ^ 64) (encode l r)
 
 -- no two states have one image
 abbrev pub ImageFaithful : Type 0

@@ -1,7 +1,7 @@
 -- A put in the words of a slot: written, read back, and its head alone.
 use Rattle.std.proofs.Common.{◌≡◌, ℕ, ◌+◌, ◌%◌, ◌^◌, ◌<◌, ◌≤◌, eqb, List, [], ◌∷◌, ◌++◌, length, get_or, take, drop, set, replicate, Some, None, sym, refl, ap, ◌∙◌, arith, rules}
 use borrow.Rule.Slice.PartMut.{put_mid}
-use Rattle.std.specs.List.{AllByRecursion as All}
+use Rattle.std.specs.List.{AllByRecursion}
 use Rattle.std.proofs.lemmas.List.{drop-drop, drop_all, take_at, append_assoc, append-nil, length-append, length-set, places, get_or-append_right, get_or-take, get_or-drop, get_or_past, length-take}
 use Rattle.std.proofs.lemmas.Bool.{cond-true, eq-eqb}
 use Rattle.std.proofs.lemmas.Slice.{take-put_mid}
@@ -130,7 +130,7 @@ unfolding slot_words
 none_is = refl
 
 -- each word of a slot fits
-pub words_below : (q : model.Put model.Body) → Fit q → Small q.seen → q.from < 2 ^ 64 → model.key_of q.body < 2 ^ 64 → All (λ w. w < 2 ^ 64) (put_words (code_put q))
+pub words_below : (q : model.Put model.Body) → Fit q → Small q.seen → q.from < 2 ^ 64 → model.key_of q.body < 2 ^ 64 → AllByRecursion (λ w. w < 2 ^ 64) (put_words (code_put q))
 unfolding put_words
 words_below q f small lf lk =
     let P : ℕ → Type 0 = λ w. w < 2 ^ 64 in
@@ -139,6 +139,6 @@ words_below q f small lf lk =
     let bs : List ℕ = pad value_most v in
     let fits : Bytes bs = λ i. rw (getD_pad value_most v i f.value) (f.bytes i) in
     let z : 0 < 2 ^ 64 = omega arith in
-    let counts : All P cs = All-from_get_or P cs 0 (λ i h. omega (arith, small_pad clock_size q.seen f.seen small i)) in
-    let value : All P (packed bs) = All-from_get_or P (packed bs) 0 (packed_below bs fits) in
+    let counts : AllByRecursion P cs = All-from_get_or P cs 0 (λ i h. omega (arith, small_pad clock_size q.seen f.seen small i)) in
+    let value : AllByRecursion P (packed bs) = All-from_get_or P (packed bs) 0 (packed_below bs fits) in
     (omega arith, (lf, All-append P cs _ counts (z, (z, (lk, (omega (arith, f.value), All-append P (packed bs) (0 ∷ 0 ∷ []) value (z, (z, tt))))))))

@@ -2,7 +2,7 @@
 use Rattle.std.proofs.Common.{◌≡◌, ℕ, ◌+◌, ◌*◌, ◌<◌, ◌≤◌, true, ◌&&◌, List, [], ◌∷◌, ◌++◌, length, Ok, Err, Result, sym, refl, ap, ◌∙◌, subst, arith}
 use Rattle.std.proofs.lemmas.Bool.{lt-ltb, and_parts}
 use Rattle.std.proofs.lemmas.List.{append-nil, drop_all}
-use Rattle.std.specs.List.{AllByRecursion as All}
+use Rattle.std.specs.List.{AllByRecursion}
 use Rattle.model.specs.Limits.{Limits, GoodLimits}
 use Rattle.model.specs.Program.{Program, memory, readable, all_readable, all_below, word_bound, AnswersRight, RefusalKeepsMemory, MemoryBounded}
 use Rattle.model.specs.Replica.{Replica, Event, answer, new_replica, refusal, replica}
@@ -31,7 +31,7 @@ opens (Ok a) l i before m room o = o.1
 opens (Err e) l i before m room o = absurd (o.1.0 room)
 
 -- each below a bound, by the test
-below_all : (b : ℕ) (xs : List ℕ) → All (λ w. w < b) xs → all_below b xs ≡ true
+below_all : (b : ℕ) (xs : List ℕ) → AllByRecursion (λ w. w < b) xs → all_below b xs ≡ true
 unfolding all_below
 below_all b [] h = refl
 below_all b (x ∷ xs) h = ap (λ t. t && all_below b xs) (lt-ltb x b h.0) ∙ below_all b xs h.1

@@ -1,7 +1,7 @@
 -- What a text in several parts is read as, by what its parts are read as.
 use Rattle.std.proofs.Common.{◌≡◌, ℕ, ◌<◌, List, [], ◌∷◌, ◌++◌, length, get_or, drop, Some, None, vec_items, decimal, Option, sym, refl, ap, ◌∙◌, subst, arith}
 use Rattle.std.specs.Option.{option_map}
-use Rattle.std.specs.List.{AllByRecursion as All}
+use Rattle.std.specs.List.{AllByRecursion}
 use Rattle.text.specs.Printed.{put_text}
 use Rattle.text.specs.declared.event.Put.{Put}
 use Rattle.words.specs.Text.{Bytes, Reads, Word, Words, numbers_text, value_text}
@@ -85,7 +85,7 @@ module _ (w : List ℕ) where
       pub put_read : (p : Put) (ns : List ℕ) → Reads decimal Word word (Some p.key) → Reads value_text Bytes vword (Some (vec_items p.value)) → Reads numbers_text Words more (Some ns) → p.from ∷ vec_items p.seen ≡ ns → Reads put_text CanPut w (Some p)
       unfolding put_rest
       put_read p ns x y z e =
-          let all : All Word (p.from ∷ vec_items p.seen) = subst (All Word) (sym e) z.0.0 in
+          let all : AllByRecursion Word (p.from ∷ vec_items p.seen) = subst (AllByRecursion Word) (sym e) z.0.0 in
           ((x.0, y.0, all.0, all.1), whole)
         where
           whole : w ≡ put_text p

@@ -1,7 +1,7 @@
 -- Which events a script can hold, and the text of their parts. Definitions only.
 use Rattle.std.specs.Prelude.{ℕ, List, ◌++◌, vec_items, codes, decimal, Vec}
 use Rattle.std.specs.declared.alloc.Global.{Global}
-use Rattle.std.specs.List.{AllByRecursion as All}
+use Rattle.std.specs.List.{AllByRecursion}
 use Rattle.text.specs.declared.event.Event.{Event}
 use Rattle.text.specs.declared.event.Event.TheVariants.{Put as Put', Get, Came, Has, Tell}
 use Rattle.text.specs.declared.event.Put.{Put}
@@ -23,11 +23,11 @@ CanTwo x = Word x.0 × Word x.1
 
 -- numbers below 2^64, values of bytes
 abbrev pub CanPut : Put → Type 0
-CanPut p = Word p.key × Bytes (vec_items p.value) × Word p.from × All Word (vec_items p.seen)
+CanPut p = Word p.key × Bytes (vec_items p.value) × Word p.from × AllByRecursion Word (vec_items p.seen)
 
 abbrev pub CanEvent : Event → Type 0
 CanEvent (Put' k v) = Word k × Bytes (vec_items v)
 CanEvent (Get k) = Word k
 CanEvent (Came p) = CanPut p
-CanEvent (Has j c) = Word j × All Word (vec_items c)
+CanEvent (Has j c) = Word j × AllByRecursion Word (vec_items c)
 CanEvent Tell = Unit {0}

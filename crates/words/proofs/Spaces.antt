@@ -7,13 +7,13 @@ use Rattle.std.proofs.lemmas.Str.Parse.{digit_at}
 use Rattle.std.proofs.lemmas.Str.Pattern.{IsSplitOnceResult, split_parts}
 use Rattle.std.proofs.lemmas.Bool.Decides.{nat_tests}
 use Rattle.std.specs.Char.{digit_char}
-use Rattle.std.specs.List.{AllByRecursion as All}
+use Rattle.std.specs.List.{AllByRecursion}
 use Rattle.words.specs.Text.{Reads, Word, Words, counts_text, hex, numbers_text, value_text}
 use Rattle.words.proofs.Decimals.{own}
 
 -- no byte is a space
 abbrev pub NoSpace : List ℕ → Type 0
-NoSpace bs = All (λ b. b ≡ 32 → ⊥) bs
+NoSpace bs = AllByRecursion (λ b. b ≡ 32 → ⊥) bs
 
 pub no_space : (bs : List ℕ) → ((i : ℕ) → i < length bs → get_or bs i 0 ≡ 32 → ⊥) → NoSpace bs
 no_space bs h = All-from_get_or (λ b. b ≡ 32 → ⊥) bs 0 h
@@ -94,7 +94,7 @@ fronts_last [] n = sym (append-nil (decimal n))
 fronts_last (m ∷ ns) n = append_assoc (decimal m) (32 ∷ fronts ns) (decimal n) ∙ ap (λ t. decimal m ++ t) (ap (λ t. 32 ∷ t) (fronts_last ns n) ∙ spaced ns n)
 
 -- behind some numbers stand the rest of the numbers
-pub behind : (ms ns rest : List ℕ) → All Word ms → Words ns → fronts ms ++ rest ≡ numbers_text ns → (ks : List ℕ) × Words ks × (rest ≡ numbers_text ks)
+pub behind : (ms ns rest : List ℕ) → AllByRecursion Word ms → Words ns → fronts ms ++ rest ≡ numbers_text ns → (ks : List ℕ) × Words ks × (rest ≡ numbers_text ks)
 unfolding fronts numbers_text counts_text
 behind [] ns rest a w e = (ns, w, e)
 behind (m ∷ ms) [] rest a w e = absurd (omega (arith, w.1))
@@ -132,7 +132,7 @@ numbers_same (n ∷ k ∷ ns) (m ∷ j ∷ ms) a b e =
     λ i. head i ∷ tail i
 
 -- THE LOOP: ms are read, and rest is left of the text
-module _ (ms rest text : List ℕ) (e : fronts ms ++ rest ≡ text) (a : All Word ms) where
+module _ (ms rest text : List ℕ) (e : fronts ms ++ rest ≡ text) (a : AllByRecursion Word ms) where
   -- the next word is no number
   pub no_next : (word more : List ℕ) → Cut rest word more → Reads decimal Word word None → Reads numbers_text Words text None
   no_next word more cut none ns w is =

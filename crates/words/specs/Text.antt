@@ -1,7 +1,7 @@
 -- The text of numbers and values, and what it is to read one. Definitions only.
 use Rattle.std.specs.Prelude.{◌≡◌, ℕ, ◌/◌, ◌%◌, ◌^◌, ◌<◌, List, [], ◌∷◌, ◌++◌, length, Some, None, decimal, Option, ◌≢◌}
 use Rattle.std.specs.Char.{digit_char}
-use Rattle.std.specs.List.{AllByRecursion as All}
+use Rattle.std.specs.List.{AllByRecursion}
 
 -- w is read as r: it is the text of what was read, and where nothing was read it is the text of nothing that can be
 abbrev pub Reads : {A B : Type 0} → (A → B) → (A → Type 0) → B → Option A → Type 0
@@ -19,7 +19,7 @@ abbrev pub Nibble : ℕ → Type 0
 Nibble d = d < 16
 
 abbrev pub Bytes : List ℕ → Type 0
-Bytes bs = All Byte bs
+Bytes bs = AllByRecursion Byte bs
 
 -- a byte as two small hexadecimal digits, and each byte of some
 abbrev pub digits : ℕ → ℕ × ℕ
@@ -46,4 +46,4 @@ numbers_text (n ∷ ns) = decimal n ++ counts_text ns
 
 -- at least one number
 abbrev pub Words : List ℕ → Type 0
-Words ns = All Word ns × (0 < length ns)
+Words ns = AllByRecursion Word ns × (0 < length ns)

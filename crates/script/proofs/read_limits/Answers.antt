@@ -1,5 +1,5 @@
 use Rattle.std.proofs.Common.{[], ◌∷◌, length, vec_items, sym, ap, ◌∙◌, subst, arith}
-use Rattle.std.specs.List.{AllByRecursion as All}
+use Rattle.std.specs.List.{AllByRecursion}
 use Rattle.words.specs.Text.{Word, Words, numbers_text}
 use Rattle.words.proofs.Spaces.{numbers_same}
 use Rattle.script.proofs.Parts.{four_of, one_read}
@@ -16,5 +16,5 @@ returns c =
     let ns = one_read numbers_text Words c.args.text.now vec_items c.in_ok-all.field-0 c.in-Some.all c.in-Some.is c.in_ok-all.ensures in
     let four = four_of (vec_items c.in-Some.all) c.index.result.now c.index-2.result.now c.index-3.result.now c.index-4.result.now
     (sym c.in-Some.all.ok.0 ∙ sym c.len.ensures ∙ c.if-len-ne4.false) c.index.ensures c.index-2.ensures c.index-3.ensures c.index-4.ensures in
-    let all = subst (All Word) four ns.0.0 in
+    let all = subst (AllByRecursion Word) four ns.0.0 in
     ((all.0, all.1.0, all.1.1.0, all.1.1.1.0), ns.1 ∙ ap numbers_text four)

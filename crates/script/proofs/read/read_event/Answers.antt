@@ -1,6 +1,6 @@
 use Rattle.std.proofs.Common.{◌∷◌, vec_items, codes, decimal, sym, refl, ap, ◌∙◌, subst, arith}
 use borrow.Author.Tests.{clash}
-use Rattle.std.specs.List.{AllByRecursion as All}
+use Rattle.std.specs.List.{AllByRecursion}
 use Rattle.text.specs.Printed.{put_text}
 use Rattle.words.specs.Text.{Word, Words, numbers_text}
 use Rattle.words.proofs.Spaces.{cut_at, uncut}
@@ -48,7 +48,7 @@ unfolding numbers_text
 returns-then-eq-5 c =
     let ns = one_read numbers_text Words c.in-Some.rest.now vec_items c.in_ok-clock.field-0 c.in-Some-4.clock c.in-Some-4.is c.in_ok-clock.ensures in
     let list = ap (λ t. c.remove-replica.result ∷ t) c.remove-replica.ensures.items ∙ first_removed (vec_items c.in-Some-4.clock) c.remove-replica.result ns.0.1 c.remove-replica.ensures.value in
-    let all : All Word (c.remove-replica.result ∷ vec_items c.remove-replica.new.self) = subst (All Word) (sym list) ns.0.0 in
+    let all : AllByRecursion Word (c.remove-replica.result ∷ vec_items c.remove-replica.new.self) = subst (AllByRecursion Word) (sym list) ns.0.0 in
     (all, verb_text c.args.text.now c.in-Some.verb.now c.in-Some.rest.now (codes "has") (numbers_text (c.remove-replica.result ∷ vec_items c.remove-replica.new.self)) (cut_at c.args.text.now c.in-Some.verb c.in-Some.rest c.in-Some.ensures.cases) ((bytes_eq-Decides _ _).0 (sym c.eq-5.ensures ∙ c.if-eq-5.true)) (ns.1 ∙ ap numbers_text (sym list)))
 
 pub returns : goal.returns
