@@ -85,7 +85,7 @@ pub fn ready(mem: &[u64], p: &Put) -> bool
 }
 
 // The put that this replica makes now.
-fn stamp(mem: &[u64], at: Place, key: u64, text: Text) -> Put
+pub fn stamp(mem: &[u64], at: Place, key: u64, text: Text) -> Put
     ensures { (l : Limits) (r : Replica) (v : List ℕ) → Fitted l r mem.now → Laid l r.delivery.me at → text ≡ code_text v → result ≡ code_put (stamped (text_at key v) r.delivery) }
 {
     Put {
