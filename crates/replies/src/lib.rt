@@ -5,10 +5,10 @@ ghost use Rattle.std.specs.Prelude.{◌≡◌, ℕ, ◌≤◌, true, [], ◌∷�
 ghost use Rattle.logs.specs.State.{Holds, Laid, Ranged};
 ghost use Rattle.model.specs.Clock.{Clock as ModelClock};
 ghost use Rattle.model.specs.Delivery.{reply as replyOf};
-ghost use Rattle.model.specs.Limits.{Limits as ModelLimits};
+ghost use Rattle.model.specs.Limits.{Limits as ModelLimits, value_most};
 ghost use Rattle.model.specs.Program.{readable};
 ghost use Rattle.model.specs.Replica.{Event as ModelEvent, Replica, answer as answer_of, in_range, puts as putsOf, refused};
-ghost use Rattle.puts.specs.Values.{code_clock};
+ghost use Rattle.puts.specs.Values.{code_clock, value_in};
 ghost use Rattle.calls.specs.Answered.{code_answer, one_put};
 ghost use Rattle.replies.specs.Written.{Writes, answer_most, item_most};
 ghost use Rattle.wire.specs.Bytes.{write_answer, write_item, write_puts};
@@ -17,7 +17,7 @@ ghost use Rattle.wire_out.specs.Said.{put_of};
 use calls::Answer;
 use logs::{Place, REPLY_MOST, reply_at};
 use memory::Refusal;
-use puts::{Clock, Put};
+use puts::{Clock, Put, Text, VALUE_MOST};
 use wire::event::Body;
 use wire_out::answer::Put as Sent;
 use wire_out::answers::put_item;
@@ -25,6 +25,19 @@ use wire_out::part::{put_bytes, put_clock, put_number};
 
 // The longest answer: eight puts, each with sixteen counts and a value of sixty-four bytes.
 pub const ANSWER_MOST: usize = 1882;
+
+// The bytes of a value.
+fn value_of(text: &Text) -> &[u8]
+    ensures is { result.now ≡ value_in text.now }
+    ensures most { length result.now ≤ value_most }
+{
+    let n = if text.len < VALUE_MOST {
+        text.len
+    } else {
+        VALUE_MOST
+    };
+    &text.bytes[..n]
+}
 
 // A put with as many counts as there are replicas.
 fn sent(put: &Put, replicas: usize) -> Sent<'_>
@@ -37,7 +50,7 @@ fn sent(put: &Put, replicas: usize) -> Sent<'_>
         seen: &put.seen.counts[..replicas],
         body: Body::Text {
             key: put.key,
-            value: put.text.as_bytes(),
+            value: value_of(&put.text),
         },
     }
 }

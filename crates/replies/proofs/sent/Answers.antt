@@ -9,6 +9,6 @@ returns c =
     let p = c.args.put.now in
     let counts = take c.args.replicas p.seen.counts in
     record {
-      is = ap (λ v. record { from = p.from; seen = counts; body = text p.key v }) c.as_bytes.ensures.is;
-      most = item_size (record { from = p.from; seen = counts; body = text p.key c.as_bytes.result.now }) (omega (arith, length-take c.args.replicas p.seen.counts)) c.as_bytes.ensures.most;
+      is = ap (λ v. record { from = p.from; seen = counts; body = text p.key v }) c.value_of.ensures.is;
+      most = item_size (record { from = p.from; seen = counts; body = text p.key c.value_of.result.now }) (omega (arith, length-take c.args.replicas p.seen.counts)) c.value_of.ensures.most;
     }

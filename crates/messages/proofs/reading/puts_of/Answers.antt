@@ -15,7 +15,7 @@ returns-in-End c =
     let ended : Some end ≡ next_put c.loop-next.left.bytes.now = ap (λ n. said.next (Some n)) (sym c.in-End.is) ∙ c.in-Some.ensures in
     sym (after_end (map put_of (vec_items c.loop-next.all)) c.loop-next.left.bytes.now ended) ∙ c.loop-next.invariant
 
-module _ (c : goal.In_ok-push) where
+module _ (c : goal.In_ok-push-in-More) where
   one_more : Some (more (said.put_of c.in-More.put) c.in-More.rest.bytes.now) ≡ next_put c.loop-next.left.bytes.now
   one_more = ap (λ n. said.next (Some n)) (sym c.in-More.is) ∙ c.in-Some.ensures
 
@@ -26,7 +26,7 @@ pub loop-next-preserved : goal.loop-next-preserved
 loop-next-preserved c =
     let ps : List (Put Body) = map put_of (vec_items c.loop-next.all) in
     let all : map put_of (vec_items c.push.new.self) ≡ ps ++ (said.put_of c.in-More.put ∷ []) =
-    ap (map put_of) c.in_ok-push.ensures.items ∙ map-append put_of (vec_items c.loop-next.all) (c.in_ok-put_of.field-0 ∷ []) ∙ ap (λ p. ps ++ (p ∷ [])) c.in_ok-put_of.ensures in
+    ap (map put_of) c.in_ok-push-in-More.ensures.items ∙ map-append put_of (vec_items c.loop-next.all) (c.in_ok-put_of-in-More.field-0 ∷ []) ∙ ap (λ p. ps ++ (p ∷ [])) c.in_ok-put_of-in-More.ensures in
     ap (λ qs. after qs (puts_in c.in-More.rest.bytes.now)) all
     ∙ after_more ps (said.put_of c.in-More.put) c.loop-next.left.bytes.now c.in-More.rest.bytes.now (one_more c)
     ∙ c.loop-next.invariant
