@@ -1,5 +1,5 @@
 -- Rounds of asking can always be carried out by calls on bytes.
-use Rattle.std.proofs.Common.{◌≡◌, ℕ, zero, suc, ◌+◌, ◌*◌, ◌<◌, ◌≤◌, Bool, true, false, ◌&&◌, eqb, ltb, ◌≢◌, ◌⊎◌, List, [], ◌∷◌, ◌++◌, length, replicate, Some, None, Option, sym, refl, ap, ◌∙◌, subst, inl, inr, arith, length-append}
+use Rattle.std.proofs.Common.{◌≡◌, ℕ, zero, suc, ◌+◌, ◌*◌, ◌%◌, ◌/◌, ◌<◌, ◌≤◌, Bool, true, false, ◌&&◌, eqb, ltb, ◌≢◌, ◌⊎◌, List, [], ◌∷◌, ◌++◌, length, replicate, Some, None, Option, sym, refl, ap, ◌∙◌, subst, inl, inr, arith, length-append}
 use Rattle.std.proofs.lemmas.Nat.{mod_below}
 use Rattle.std.proofs.lemmas.Bool.{and_from, and_parts, cases_lt, cond_both, lt-ltb}
 use Rattle.model.specs.Lists.{In}
@@ -51,7 +51,7 @@ clock_bytes c s a = bytes_both (write_counts c) (0 ∷ s) (counts_bytes c) a
 
 put_bytes : (p : Put Body) → AllBytes (value_of p.body) → AllBytes (write_put p)
 unfolding all_below
-put_bytes p a = bytes_both (write_number p.from) _ (number_bytes p.from) (clock_bytes p.seen (write_body p.body) (body_bytes p.body a))
+put_bytes p a = bytes_both (write_number p.from) (write_clock p.seen (write_body p.body)) (number_bytes p.from) (clock_bytes p.seen (write_body p.body) (body_bytes p.body a))
   where
     body_bytes : (b : Body) → AllBytes (value_of b) → AllBytes (write_body b)
     body_bytes (text k v) a = bytes_both (write_number k) v (number_bytes k) a

@@ -44,11 +44,11 @@ returns-in_default-in_range c =
     }) in
     record { exact = g.0; lives = g.1 }
 
-pub slice-bounds-happen-end : goal.slice-bounds-happen-end
-slice-bounds-happen-end c = omega (arith, words_are c.in-Ok.limits c.in-Ok.me c.new-at.result c.new-at.ensures.laid, c.in-Ok.ensures.any.1.words)
+pub slice_bounds-happen-end : goal.slice_bounds-happen-end
+slice_bounds-happen-end c = omega (arith, words_are c.in-Ok.limits c.in-Ok.me c.new-at.result c.new-at.ensures.laid, c.in-Ok.ensures.any.1.words)
 
-pub slice-bounds-happen-end-2 : goal.slice-bounds-happen-end-2
-slice-bounds-happen-end-2 c =
+pub slice_bounds-happen-end-2 : goal.slice_bounds-happen-end-2
+slice_bounds-happen-end-2 c =
     let within : (512 + 32 * (c.new-at.result.layout.waiting.base + c.new-at.result.layout.waiting.count)) ≤ length c.args.mem.now = omega (arith, words_are c.in-Ok.limits c.in-Ok.me c.new-at.result c.new-at.ensures.laid, c.in-Ok.ensures.any.1.words) in
     sym (length-take-le (512 + 32 * (c.new-at.result.layout.waiting.base + c.new-at.result.layout.waiting.count)) c.args.mem.now within)
 
