@@ -86,7 +86,7 @@ mod tests {
     // A put of this replica, with this only byte.
     fn is_put(put: PutBytes<'_>, from: u64, byte: u8) -> bool {
         let Body::Text { key: _, value } = put.body;
-        put.from == from && value == [byte]
+        put.from == from && value == [byte].as_slice()
     }
 
     // What stands at key 0.

@@ -8,24 +8,15 @@ mod usage;
 
 use play::Play;
 use std::fs::File;
-use std::io::{BufRead, BufReader, BufWriter, Read, Write};
+use std::io::{BufRead, BufReader, BufWriter, IsTerminal, Read, Write};
 use std::{env, io};
 use usage::USAGE;
 
 // A long play says how far it is each time that so many lines are done.
 const PROGRESS_LINES: u64 = 100_000;
 
-// The numbers of standard output and standard error.
-const STDOUT: i32 = 1;
-
-const STDERR: i32 = 2;
-
-fn is_terminal(file: i32) -> bool {
-    libc::isatty(file) == 1
-}
-
 fn show_progress(rt: &HostRuntime, lines: u64) -> io::Result<()> {
-    if lines % PROGRESS_LINES == 0 && is_terminal(STDERR) {
+    if lines % PROGRESS_LINES == 0 && rt.stderr().is_terminal() {
         eprintln!(rt; "cluster: {lines} lines")?;
     }
     Ok(())
@@ -34,7 +25,7 @@ fn show_progress(rt: &HostRuntime, lines: u64) -> io::Result<()> {
 // Plays all lines of `input`. On a terminal each answer is shown at once.
 fn play_all<R: Read + Drop>(rt: &HostRuntime, input: R) -> io::Result<()> {
     let heap = rt.alloc();
-    let watched = is_terminal(STDOUT);
+    let watched = rt.stdout().is_terminal();
     let mut printer = BufWriter::new(heap, rt.stdout())?;
     let mut play = Play::new(heap)?;
     let mut out = String::new(heap);

@@ -6,7 +6,7 @@ use Rattle.player.proofs.made.Made.add.Goals as goal
 pub returns-in_ok-push : goal.returns-in_ok-push
 returns-in_ok-push c =
     let all = c.args.self.now.puts in
-    let before = ap (λ v. vec_items v ++ (c.in_ok-bytes.bytes ∷ [])) c.index-mut.ensures.value in
+    let before = ap (λ v. vec_items v ++ (c.in_ok-bytes.bytes ∷ [])) c.index_mut.ensures.value in
     added (vec_items all) c.args.put.now.from _ c.push.new.self c.in_ok-bytes.bytes (omega (arith, all.ok.0, c.len.ensures)) (c.in_ok-push.ensures.items ∙ before)
     ∙ ap (one_more (remembered all) c.args.put.now.from) c.in_ok-bytes.ensures
 

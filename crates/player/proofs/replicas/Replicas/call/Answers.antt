@@ -13,7 +13,7 @@ returns-then-replica-count c =
 pub returns : goal.returns
 returns c =
     let all = c.args.self.now.memories in
-    let memory = c.index-mut.result.now in
+    let memory = c.index_mut.result.now in
     let more = with_items_is memory c.answered.new.memory (omega (arith, c.answered.auto.memory, c.as_mut_slice-memory.ensures.len)) in
     played_at all.items c.args.replica _ memory _ c.answered.new.memory c.args.event.now c.answered.result (omega (arith, all.ok.0, c.count.ensures))
-    (c.as_mut_slice-memory.ensures.value ∙ ap vec_items c.index-mut.ensures.value) more c.answered.ensures
+    (c.as_mut_slice-memory.ensures.value ∙ ap vec_items c.index_mut.ensures.value) more c.answered.ensures
