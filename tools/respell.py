@@ -127,6 +127,52 @@ def turn(path, names):
     return text, made
 
 
+# Names that have no dash to turn, or that are bound inside a definition or a lemma; and a word of the library's older name.
+OTHERS = {
+    "cameOf": "came_of",
+    "getOf": "get_of",
+    "tellOf": "tell_of",
+    "eventOf": "event_in",
+    "eventIn": "event_in",
+    "replyOf": "reply_of",
+    "putsOf": "puts_of",
+    "number_of_lem": "number_of",
+    "is_held_lem": "is_held",
+    "getD_pad": "get_or_pad",
+    "getD_either": "get_or_either",
+    "getD_zeros": "get_or_zeros",
+    "is-me": "is_me",
+    "is-most": "is_most",
+    "is-own": "is_own",
+    "is-told": "is_told",
+    "read-i": "read_i",
+    "read-j": "read_j",
+    "right-f": "right_f",
+    "right-g": "right_g",
+    "same-own": "same_own",
+    "text-size": "text_size",
+    "with-x": "with_x",
+    "counts-pieces": "counts_pieces",
+    "counts-push": "counts_push",
+    "hex-pieces": "hex_pieces",
+}
+OTHER = re.compile(r"(?<![\w'.-])(" + "|".join(map(re.escape, OTHERS)) + r")(?![\w'-])")
+
+
+def turn_others(path):
+    text = read(path)
+    if path.split(os.sep)[2] in ("specs", "proofs", "src"):
+        code = outside(text, lambda t: t)
+        for m in set(OTHER.findall(PLAIN.sub("", code))):
+            if re.search(r"(?<![\w'.-])" + re.escape(OTHERS[m]) + r"(?![\w'-])", PLAIN.sub("", text)):
+                raise SystemExit(f"{path}: {m} would meet {OTHERS[m]}")
+    made = outside(text, lambda t: OTHER.sub(lambda m: OTHERS[m[1]], t))
+    if path.split(os.sep)[2] == "specs" and re.search(r"(?<![\w'])get_or(?![\w'-])", made):
+        made = re.sub(r"(?m)^(use [^\n]*)(?<![\w'])get_or, ([^\n]*slice_index_or)", r"\1\2", made)
+        made = outside(made, lambda t: re.sub(r"(?<![\w'])get_or(?![\w'-])", "slice_index_or", t))
+    return text, made
+
+
 def main():
     names = declared()
     for path in library(names):
@@ -145,7 +191,13 @@ def main():
             count += 1
             with open(path, "w", encoding="utf-8") as f:
                 f.write(new)
-    print(f"{len(names)} names turned in {count} files")
+    for path in [*texts(), *sorted(edits)]:
+        old, new = turn_others(path)
+        if old != new:
+            count += 1
+            with open(path, "w", encoding="utf-8") as f:
+                f.write(new)
+    print(f"{len(names)} names turned; {count} times a file was written")
 
 
 if __name__ == "__main__":

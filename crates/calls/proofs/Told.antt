@@ -12,17 +12,17 @@ use Rattle.puts.specs.Values.{Small, clock_size, code_clock, code_put}
 use Rattle.puts.specs.Words.{code_slot}
 use Rattle.puts.specs.declared.Clock.{Clock as CodeClock}
 use Rattle.puts.specs.declared.Put.{Put as CodePut}
-use Rattle.puts.proofs.Padded.{getD_pad}
+use Rattle.puts.proofs.Padded.{get_or_pad}
 use Rattle.memory.specs.State.{own_count}
 use Rattle.memory.specs.Valid.{AllSound, Sound, Valid}
 use Rattle.memory.proofs.Sound.{clock_fits}
 use Rattle.logs.specs.State.{nth_of}
 
 -- THE CLOCK THAT WAS TOLD
-module _ (l : Limits) (r : Replica) (j : ℕ) (c : Clock) (own told me : ℕ) (k : CodeClock) (v : Valid l r) (is-own : own ≡ own_count r) (is-me : me ≡ r.delivery.me) (long : length c ≡ l.replicas) (e : k ≡ code_clock c) (is-told : told ≡ at k.counts me) where
+module _ (l : Limits) (r : Replica) (j : ℕ) (c : Clock) (own told me : ℕ) (k : CodeClock) (v : Valid l r) (is_own : own ≡ own_count r) (is_me : me ≡ r.delivery.me) (long : length c ≡ l.replicas) (e : k ≡ code_clock c) (is_told : told ≡ at k.counts me) where
   told_is : told ≡ at c r.delivery.me
   told_is =
-      is-told ∙ (λ i. at (e i).counts (is-me i)) ∙ getD_pad clock_size c r.delivery.me (subst (λ n. n ≤ clock_size) (sym long) v.fits.delivery.replicas)
+      is_told ∙ (λ i. at (e i).counts (is_me i)) ∙ get_or_pad clock_size c r.delivery.me (subst (λ n. n ≤ clock_size) (sym long) v.fits.delivery.replicas)
 
   pub told_too_much : own < told → possible r.delivery (has j c) ≡ false
   unfolding possible

@@ -8,7 +8,7 @@ ghost use Rattle.memory.specs.State.{own_count};
 ghost use Rattle.memory.specs.Valid.{Sound};
 ghost use Rattle.model.specs.Program.{readable};
 ghost use Rattle.model.specs.Put.{Body, Put as ModelPut, good_body, text as text_of, value_of};
-ghost use Rattle.model.specs.Replica.{Event as ModelEvent, Replica, after, came as cameOf, get as getOf, has as has_of, in_range, legible, log_room, possible, put as put_of, queue_room as has_queue_room, tell as tellOf};
+ghost use Rattle.model.specs.Replica.{Event as ModelEvent, Replica, after, came as came_of, get as get_of, has as has_of, in_range, legible, log_room, possible, put as put_of, queue_room as has_queue_room, tell as tell_of};
 ghost use Rattle.puts.specs.Values.{Bytes, code_clock, code_put, code_text};
 ghost use Rattle.ranges.specs.Checked.{Handed, code_event};
 ghost use Rattle.calls.specs.Answered.{AllSupported, AnswerSaid, code_answer};
@@ -72,7 +72,7 @@ fn put_answer(mem: &[u64], at: Place, key: u64, text: Text) -> Answer
 
 // The clock, if the put that came can be: one of this replica's own was made here.
 fn possible_put(mem: &[u64], at: Place, p: &Put) -> Option<Clock>
-    ensures { (l : ModelLimits) (r : Replica) (q : ModelPut Body) → Holds l r mem.now → Laid l r.delivery.me at → Sound l q → p.now ≡ code_put q → Handed (possible r.delivery (cameOf q)) (code_clock r.delivery.clock) result }
+    ensures { (l : ModelLimits) (r : Replica) (q : ModelPut Body) → Holds l r mem.now → Laid l r.delivery.me at → Sound l q → p.now ≡ code_put q → Handed (possible r.delivery (came_of q)) (code_clock r.delivery.clock) result }
 {
     let clock = clock_of(mem);
     let mine = p.from == at.me as u64;
@@ -86,7 +86,7 @@ fn possible_put(mem: &[u64], at: Place, p: &Put) -> Option<Clock>
 // How many wait, if the put that came need not wait or finds room.
 fn queue_room(mem: &[u64], at: Place, p: &Put) -> Option<usize>
     requires { Ranged at }
-    ensures { (l : ModelLimits) (r : Replica) (q : ModelPut Body) → Holds l r mem.now → Laid l r.delivery.me at → Sound l q → p.now ≡ code_put q → Handed (has_queue_room l r.delivery (cameOf q)) (length r.delivery.waiting) result }
+    ensures { (l : ModelLimits) (r : Replica) (q : ModelPut Body) → Holds l r mem.now → Laid l r.delivery.me at → Sound l q → p.now ≡ code_put q → Handed (has_queue_room l r.delivery (came_of q)) (length r.delivery.waiting) result }
 {
     let waiting = waiting(mem, at);
     if waiting < at.layout.waiting.count {
@@ -103,7 +103,7 @@ fn queue_room(mem: &[u64], at: Place, p: &Put) -> Option<usize>
 // A put came.
 fn came_answer(mem: &[u64], at: Place, p: &Put) -> Answer
     requires { Ranged at }
-    ensures { (l : ModelLimits) (r : Replica) (q : ModelPut Body) → Holds l r mem.now → Laid l r.delivery.me at → AllSupported l → Sound l q → in_range l (cameOf q) ≡ true → p.now ≡ code_put q → result ≡ code_answer l r (cameOf q) }
+    ensures { (l : ModelLimits) (r : Replica) (q : ModelPut Body) → Holds l r mem.now → Laid l r.delivery.me at → AllSupported l → Sound l q → in_range l (came_of q) ≡ true → p.now ≡ code_put q → result ≡ code_answer l r (came_of q) }
 {
     let Some(_clock) = possible_put(mem, at, p) else {
         return refused(3);
@@ -139,7 +139,7 @@ fn has_answer(mem: &[u64], at: Place, clock: &Clock) -> Answer
 // What stands at a key.
 fn get_answer(mem: &[u64], at: Place, key: u64) -> Answer
     requires { Ranged at }
-    ensures { (l : ModelLimits) (r : Replica) → Holds l r mem.now → AllSupported l → key < l.keys → result ≡ code_answer l r (getOf key) }
+    ensures { (l : ModelLimits) (r : Replica) → Holds l r mem.now → AllSupported l → key < l.keys → result ≡ code_answer l r (get_of key) }
 {
     match value_at(mem, at, key) {
         None => Answer::Nothing,
@@ -149,7 +149,7 @@ fn get_answer(mem: &[u64], at: Place, key: u64) -> Answer
 
 // Its clock.
 fn tell_answer(mem: &[u64]) -> Answer
-    ensures { (l : ModelLimits) (r : Replica) → Holds l r mem.now → AllSupported l → result ≡ code_answer l r tellOf }
+    ensures { (l : ModelLimits) (r : Replica) → Holds l r mem.now → AllSupported l → result ≡ code_answer l r tell_of }
 {
     Answer::Clock {
         clock: clock_of(mem),
@@ -183,7 +183,7 @@ fn apply_put(mem: &mut [u64], at: Place, answer: &Answer)
 // A put that came is taken, or waits.
 fn apply_came(mem: &mut [u64], at: Place, p: &Put, answer: &Answer)
     requires { Ranged at }
-    ensures { (l : ModelLimits) (r : Replica) (q : ModelPut Body) → Holds l r mem.old → Laid l r.delivery.me at → Sound l q → p.now ≡ code_put q → answer.now ≡ code_answer l r (cameOf q) → Holds l (after l r (cameOf q)) mem.new }
+    ensures { (l : ModelLimits) (r : Replica) (q : ModelPut Body) → Holds l r mem.old → Laid l r.delivery.me at → Sound l q → p.now ≡ code_put q → answer.now ≡ code_answer l r (came_of q) → Holds l (after l r (came_of q)) mem.new }
 {
     if let Answer::Came = answer {
         deliver(mem, at, p);

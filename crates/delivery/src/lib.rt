@@ -4,7 +4,7 @@
 ghost use Rattle.std.specs.Prelude.{◌≡◌, ℕ, ◌<◌, ◌≤◌, true, ◌≢◌, List, [], ◌∷◌, length, if◌then◌else◌, slice_index_or, slice_set};
 ghost use Rattle.model.specs.Limits.{Limits};
 ghost use Rattle.model.specs.Clock.{Clock as ModelClock};
-ghost use Rattle.model.specs.Put.{Put as ModelPut, Body, number as number_of_lem, had as is_had, key_of, text as text_at, good_body};
+ghost use Rattle.model.specs.Put.{Put as ModelPut, Body, number as number_of, had as is_had, key_of, text as text_at, good_body};
 ghost use Rattle.model.specs.Delivery.{Run, begin, take_one, is_in, nothing_new as is_nothing_new, ready as is_ready, enqueued, lacking, stamped, settle as settled, deliver as delivered};
 ghost use Rattle.model.specs.Store.{Store, stand as stands, stored, shown};
 ghost use Rattle.model.specs.Replica.{Replica, put as put_of, came, possible, log_room, queue_room, moved};
@@ -47,7 +47,7 @@ pub fn waiting_at(mem: &[u64], at: Place, i: usize) -> Option<Put>
 // The put with this head waits.
 fn is_waiting(mem: &[u64], at: Place, from: u64, number: u64) -> bool
     requires { Ranged at }
-    ensures { (l : Limits) (r : Replica) (q : ModelPut Body) → Fitted l r mem.now → Laid l r.delivery.me at → from ≡ q.from → number ≡ number_of_lem q → result ≡ is_in q r.delivery.waiting }
+    ensures { (l : Limits) (r : Replica) (q : ModelPut Body) → Fitted l r mem.now → Laid l r.delivery.me at → from ≡ q.from → number ≡ number_of q → result ≡ is_in q r.delivery.waiting }
 {
     for i in 0..waiting(mem, at) {
         let Some(head) = read_head(mem, at.layout.waiting.base + i) else {

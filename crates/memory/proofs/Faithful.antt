@@ -113,13 +113,13 @@ module _ (l m : Limits) (r s : Replica) (v : Valid l r) (w : Valid m s) (e : enc
       let qs = s.delivery.log in
       let own : ℕ = at r.delivery.clock r.delivery.me in
       let own' : ℕ = at s.delivery.clock s.delivery.me in
-      let same-own : own ≡ own' = (λ i. at (same_clock i) (size 2 i)) in
+      let same_own : own ≡ own' = (λ i. at (same_clock i) (size 2 i)) in
       ext_get_or no_put ps qs (size 1)
       (λ k h.
       let hk : k < length qs = omega (arith, size 1) in
       let n : ℕ = (own - k) % l.log_most in
       let n' : ℕ = (own' - k) % m.log_most in
-      let same : n ≡ n' = (λ i. (same-own i - k) % size 5 i) in
+      let same : n ≡ n' = (λ i. (same_own i - k) % size 5 i) in
       let ln = mod-lt (own - k) v.shaped.some in
       let mn = mod-lt (own' - k) w.shaped.some in
       let place : l.keys + n ≡ m.keys + n' = omega (arith, size 4) in

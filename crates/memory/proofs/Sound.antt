@@ -11,7 +11,7 @@ use Rattle.model.specs.Replica.{Replica, came, in_range}
 use Rattle.puts.specs.Values.{Small, Bytes, pad}
 use Rattle.puts.specs.Words.{slot_size, Slot, slot_words, FitSlot}
 use Rattle.puts.proofs.Blocks.{joined_append, joined_zeros}
-use Rattle.puts.proofs.Padded.{getD_pad}
+use Rattle.puts.proofs.Padded.{get_or_pad}
 use Rattle.puts.proofs.Slots.{words_below}
 use Rattle.slots.specs.Image.{row_size, header}
 use Rattle.memory.specs.Image.{sizes, known_rows, rows, one, queue, ring, slots, encode}
@@ -74,7 +74,7 @@ zeros_fit : (n : ℕ) → AllByRecursion Word (replicate n 0)
 zeros_fit n = all_same Word 0 (omega arith) n
 
 row_fits : (c : List ℕ) → length c ≤ row_size → Small c → AllByRecursion Word (pad row_size c)
-row_fits c h s = All-from_get_or Word (pad row_size c) 0 (λ i lt. omega (arith, getD_pad row_size c i h, s i))
+row_fits c h s = All-from_get_or Word (pad row_size c) 0 (λ i lt. omega (arith, get_or_pad row_size c i h, s i))
 
 slot_fits : (l : Limits) → l.replicas ≤ 16 → l.keys ≤ 4096 → (s : Slot) → SoundSlot l s → AllByRecursion Word (slot_words s)
 unfolding slot_words SoundSlot

@@ -1,5 +1,5 @@
 -- One setter for each part of the state, and what reading and writing the memory of a replica means for its state.
-use Rattle.std.specs.Prelude.{◌≡◌, ℕ, suc, ◌+◌, ◌-◌, ◌%◌, ◌<◌, List, [], ◌∷◌, ◌++◌, length, get_or, take, Some, slice_index_or, slice_set}
+use Rattle.std.specs.Prelude.{◌≡◌, ℕ, suc, ◌+◌, ◌-◌, ◌%◌, ◌<◌, List, [], ◌∷◌, ◌++◌, length, take, Some, slice_index_or, slice_set}
 use Rattle.model.specs.Limits.{Limits}
 use Rattle.model.specs.Clock.{Clock, at}
 use Rattle.model.specs.Put.{Put, Body, number}
@@ -47,7 +47,7 @@ pub record Reads (l : Limits) (r : Replica) : Type 0 where
   pub stands : (k : ℕ) → k < l.keys → put_at ((layout_of (code_limits l)).keys.base + k) (encode l r) ≡ code_slot (shown r.store k)
   pub waits : (i : ℕ) (d : Put Body) → i < length r.delivery.waiting → put_at ((layout_of (code_limits l)).waiting.base + i) (encode l r) ≡ Some (code_put (slice_index_or r.delivery.waiting i d))
   pub waits_head : (i : ℕ) (d : Put Body) → i < length r.delivery.waiting →
-      head_at ((layout_of (code_limits l)).waiting.base + i) (encode l r) ≡ Some (record { from = (get_or r.delivery.waiting i d).from; number = number (slice_index_or r.delivery.waiting i d) })
+      head_at ((layout_of (code_limits l)).waiting.base + i) (encode l r) ≡ Some (record { from = (slice_index_or r.delivery.waiting i d).from; number = number (slice_index_or r.delivery.waiting i d) })
   pub logged : Shaped l r.delivery → (i : ℕ) (d : Put Body) → i < length r.delivery.log →
       put_at ((layout_of (code_limits l)).log.base + (own_count r - i) % l.log_most) (encode l r) ≡ Some (code_put (slice_index_or r.delivery.log i d))
 

@@ -1,5 +1,5 @@
 -- The states whose image is faithful: every part has its place. Definitions only.
-use Rattle.std.specs.Prelude.{◌≡◌, ℕ, ◌-◌, ◌<◌, ◌≤◌, ◌≢◌, List, [], ◌∷◌, length, get_or, slice_index_or}
+use Rattle.std.specs.Prelude.{◌≡◌, ℕ, ◌-◌, ◌<◌, ◌≤◌, ◌≢◌, List, [], ◌∷◌, length, slice_index_or}
 use Rattle.model.specs.Limits.{Limits}
 use Rattle.model.specs.Clock.{at}
 use Rattle.model.specs.Put.{Put, Body, number, key_of}
@@ -60,7 +60,7 @@ pub record Shaped (l : Limits) (d : Delivery Body) : Type 0 where
   pub down : Down d.me (at d.clock d.me) d.log
   pub room : length d.log ≤ l.log_most
   pub some : 0 < l.log_most
-  pub others : (k : ℕ) (p : Put Body) → k < length d.waiting → (get_or d.waiting k p).from ≢ d.me
+  pub others : (k : ℕ) (p : Put Body) → k < length d.waiting → (slice_index_or d.waiting k p).from ≢ d.me
 
 -- a state as any accepted events leave it
 pub record Valid (l : Limits) (r : Replica) : Type 0 where

@@ -5,7 +5,7 @@ ghost use Rattle.std.specs.Prelude.{◌≡◌, false, map, IfOk, Some, MatchOpti
 ghost use Rattle.std.specs.Option.{option_map};
 ghost use Rattle.wire.specs.Answers.{puts_in, read_answer};
 ghost use Rattle.wire.specs.Reading.{clock_in, read};
-ghost use Rattle.wire.specs.Said.{answer as answer_in, event as eventIn, put_of as put_in};
+ghost use Rattle.wire.specs.Said.{answer as answer_in, event as event_in, put_of as put_in};
 
 use std::alloc::{AllocError, Global};
 use text::event::{Answer, Event, Put};
@@ -25,7 +25,7 @@ pub fn read_event(heap: Global, bytes: &[u8]) -> Result<Option<Event>, AllocErro
 }
 
 fn event_of(heap: Global, event: EventBytes<'_>) -> Result<Event, AllocError>
-    ensures { IfOk result (λ e. event_meant e ≡ eventIn event.entry) }
+    ensures { IfOk result (λ e. event_meant e ≡ event_in event.entry) }
 {
     match event {
         EventBytes::Put { body } => {

@@ -1,7 +1,7 @@
 // Events of a script to their bytes.
 ghost use Rattle.messages.specs.Meaning.{event_of, put_of as put_meant};
 ghost use Rattle.model.specs.Put.{text as text_of};
-ghost use Rattle.model.specs.Replica.{came as cameOf, get as getOf, has as has_of, put as put_of, tell as tellOf};
+ghost use Rattle.model.specs.Replica.{came as came_of, get as get_of, has as has_of, put as put_of, tell as tell_of};
 ghost use Rattle.std.specs.Prelude.{◌≡◌, take, IfOk, MatchOption};
 ghost use Rattle.wire.specs.Bytes.{write_event};
 
@@ -33,7 +33,7 @@ fn put_bytes(heap: Global, key: u64, value: &[u8]) -> Result<Vec<u8>, AllocError
 }
 
 fn get_bytes(heap: Global, key: u64) -> Result<Vec<u8>, AllocError>
-    ensures { IfOk result (λ v. v.items ≡ write_event (getOf key)) }
+    ensures { IfOk result (λ v. v.items ≡ write_event (get_of key)) }
 {
     let mut bytes = vec![in heap; 0u8; 9]?;
     let end = write_get(bytes.as_mut_slice(), key);
@@ -42,7 +42,7 @@ fn get_bytes(heap: Global, key: u64) -> Result<Vec<u8>, AllocError>
 
 // The bytes by which a put comes to a replica.
 pub fn came_bytes(heap: Global, put: &Put) -> Result<Vec<u8>, AllocError>
-    ensures { IfOk result (λ v. v.items ≡ write_event (cameOf (put_meant put.now))) }
+    ensures { IfOk result (λ v. v.items ≡ write_event (came_of (put_meant put.now))) }
 {
     let key = put.key;
     let value = put.value.as_slice();
@@ -64,7 +64,7 @@ fn has_bytes(heap: Global, replica: u64, clock: &[u64]) -> Result<Vec<u8>, Alloc
 }
 
 fn tell_bytes(heap: Global) -> Result<Vec<u8>, AllocError>
-    ensures { IfOk result (λ v. v.items ≡ write_event tellOf) }
+    ensures { IfOk result (λ v. v.items ≡ write_event tell_of) }
 {
     let mut bytes = vec![in heap; 0u8; 1]?;
     let end = write_tell(bytes.as_mut_slice());

@@ -11,7 +11,7 @@ use Rattle.model.specs.Put.{Put, good_head, Body, good_body}
 use Rattle.model.specs.Delivery.{Delivery, new_delivery, Run, stamped}
 use Rattle.model.specs.Replica.{Replica, clock_of, Event, put, get, came, has, tell, garbled, Answer, refused, event_number, in_range, log_room, queue_room, refusal, accepted, place, moves, moved, says, takes}
 use Rattle.model.specs.Cluster.{Told, Cluster, new_cluster, clock_at, update, is_put, puts_of, made_by, told_by, Allowed, Reachable, start, step}
-use Rattle.model.proofs.Lists.{update_split, getD_either}
+use Rattle.model.proofs.Lists.{update_split, get_or_either}
 use Rattle.model.proofs.Clocks.{Below}
 use Rattle.model.proofs.Made.{Made, Fresh, made_more, closed_good}
 use Rattle.model.proofs.Sound.{Sound, sound_deliver, sound_learn, sound_more, own_fresh, sound_own, sound_clocks}
@@ -31,7 +31,7 @@ pub record Inv (l : Limits) (w : Cluster) (ts : ℕ → List (Put Body)) : Type 
 
 -- AT THE START
 at_zero : (n q : ℕ) → at (replicate n 0) q ≡ 0
-at_zero n q = elim (getD_either 0 n 0 q) [ inl e ↦ e | inr e ↦ e ]
+at_zero n q = elim (get_or_either 0 n 0 q) [ inl e ↦ e | inr e ↦ e ]
 
 sound_new : (l : Limits) (cs : ℕ → Clock) (i : ℕ) → Sound {B = Body} l [] cs (new_delivery l i) []
 sound_new l cs i =
@@ -52,7 +52,7 @@ sound_new l cs i =
     }
   where
     known : (j q n : ℕ) → at (get_or (replicate l.replicas (new_clock l)) j []) q ≤ n
-    known j q n = elim (getD_either [] l.replicas (new_clock l) j) [
+    known j q n = elim (get_or_either [] l.replicas (new_clock l) j) [
       | inl e ↦ subst (λ (c : Clock). at c q ≤ n) (sym e) (omega (arith, at_zero l.replicas q))
       | inr e ↦ subst (λ (c : Clock). at c q ≤ n) (sym e) (omega arith)
     ]

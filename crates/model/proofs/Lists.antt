@@ -18,10 +18,10 @@ set_split P d (x ∷ xs) zero (suc j) a f o = o
 set_split P d (x ∷ xs) (suc i) zero a f o = o
 set_split P d (x ∷ xs) (suc i) (suc j) a f o = set_split P d xs i j a (λ e. f (ap suc e)) o
 
-pub getD_either : {A : Type 0} (d : A) (n : ℕ) (a : A) (i : ℕ) → (get_or (replicate n a) i d ≡ a) ⊎ (get_or (replicate n a) i d ≡ d)
-getD_either d zero a i = inr refl
-getD_either d (suc n) a zero = inl refl
-getD_either d (suc n) a (suc i) = getD_either d n a i
+pub get_or_either : {A : Type 0} (d : A) (n : ℕ) (a : A) (i : ℕ) → (get_or (replicate n a) i d ≡ a) ⊎ (get_or (replicate n a) i d ≡ d)
+get_or_either d zero a i = inr refl
+get_or_either d (suc n) a zero = inl refl
+get_or_either d (suc n) a (suc i) = get_or_either d n a i
 
 -- membership
 pub in_append : {A : Type 0} (x : A) (xs ys : List A) → In x (xs ++ ys) → In x xs ⊎ In x ys

@@ -17,9 +17,9 @@ pub program_shows_latest : ProgramShowsLatest
 program_shows_latest can f right l good c w x i k b bk read = program_is_replica can f right l good w x i (get k) b read ∙ shows_latest l w i k x bk (good.supports 1 ∙ c)
 
 pub programs_agree : ProgramsAgree
-programs_agree can f g right-f right-g l good v x same i j k bi bj read-i read-j =
-    (program_is_replica can f right-f l good v x i (get k) bi read-i ∙ (same i j bi bj).1 k) ∙ sym (program_is_replica can g right-g l good v x j (get k) bj read-j)
+programs_agree can f g right_f right_g l good v x same i j k bi bj read_i read_j =
+    (program_is_replica can f right_f l good v x i (get k) bi read_i ∙ (same i j bi bj).1 k) ∙ sym (program_is_replica can g right_g l good v x j (get k) bj read_j)
 
 pub programs_converge : ProgramsConverge
-programs_converge can f g right-f right-g l good c w rs y n r x i j k bi bj read-i read-j =
-    programs_agree can f g right-f right-g l good (ran_all l w rs) x (converges l w rs (good.supports 2 ∙ c.0, good.supports 3 ∙ c.1, good.supports 4 ∙ c.2) y n r) i j k bi bj read-i read-j
+programs_converge can f g right_f right_g l good c w rs y n r x i j k bi bj read_i read_j =
+    programs_agree can f g right_f right_g l good (ran_all l w rs) x (converges l w rs (good.supports 2 ∙ c.0, good.supports 3 ∙ c.1, good.supports 4 ∙ c.2) y n r) i j k bi bj read_i read_j

@@ -9,7 +9,7 @@ use Rattle.model.specs.Clock.{Clock}
 use Rattle.model.specs.Put.{Put, number, later, had, Body, key_of}
 use Rattle.model.specs.Store.{Store, new_store, shown, stand, stored, stored_all, of_key, latest}
 use Rattle.model.specs.Theorems.{not_back}
-use Rattle.model.proofs.Lists.{set_split, getD_either}
+use Rattle.model.proofs.Lists.{set_split, get_or_either}
 use Rattle.model.proofs.Made.{later_trans, later_not_both, Compares, Total}
 
 abbrev pub key : Put Body → ℕ
@@ -101,7 +101,7 @@ latest_add M k p (a ∷ az) e t s =
 -- what a fold of puts shows is the latest of them
 pub fold_latest : (l : Limits) (ts : List (Put Body)) → Total ts → ((p : Put Body) → In p ts → key p < l.keys) → (k : ℕ) → Latest (λ q. In q ts) k (shown (stored_all ts (new_store l)) k)
 unfolding stored_all
-fold_latest l [] t b k = subst (Latest (λ q. In q []) k) (elim (getD_either [] l.keys [] k) [ inl e ↦ sym e | inr e ↦ sym e ]) (λ q i e. i)
+fold_latest l [] t b k = subst (Latest (λ q. In q []) k) (elim (get_or_either [] l.keys [] k) [ inl e ↦ sym e | inr e ↦ sym e ]) (λ q i e. i)
 fold_latest l (p ∷ ts) t b k =
     let s : Store = stored_all ts (new_store l) in
     let r : (j : ℕ) → Latest (λ q. In q ts) j (shown s j) = fold_latest l ts (λ a c i j. t a c (inr i) (inr j)) (λ q i. b q (inr i)) in

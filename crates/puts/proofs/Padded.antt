@@ -25,15 +25,15 @@ pad_is n xs h =
     let le : n - length xs ≤ n = omega arith in
     ap (λ m. take m (xs ++ replicate n z)) e ∙ take_after xs (replicate n z) (length xs) (n - length xs) refl ∙ ap (λ t. xs ++ t) (take-replicate (n - length xs) n z le)
 
-getD_zeros : (n : ℕ) (xs : List ℕ) (i : ℕ) → get_or (xs ++ replicate n 0) i 0 ≡ get_or xs i 0
-getD_zeros zero [] i = refl
-getD_zeros (suc n) [] zero = refl
-getD_zeros (suc n) [] (suc i) = getD_zeros n [] i
-getD_zeros n (x ∷ xs) zero = refl
-getD_zeros n (x ∷ xs) (suc i) = getD_zeros n xs i
+get_or_zeros : (n : ℕ) (xs : List ℕ) (i : ℕ) → get_or (xs ++ replicate n 0) i 0 ≡ get_or xs i 0
+get_or_zeros zero [] i = refl
+get_or_zeros (suc n) [] zero = refl
+get_or_zeros (suc n) [] (suc i) = get_or_zeros n [] i
+get_or_zeros n (x ∷ xs) zero = refl
+get_or_zeros n (x ∷ xs) (suc i) = get_or_zeros n xs i
 
-pub getD_pad : (n : ℕ) (xs : List ℕ) (i : ℕ) → length xs ≤ n → get_or (pad n xs) i 0 ≡ get_or xs i 0
-getD_pad n xs i h = ap (λ t. get_or t i 0) (pad_is n xs h) ∙ getD_zeros (n - length xs) xs i
+pub get_or_pad : (n : ℕ) (xs : List ℕ) (i : ℕ) → length xs ≤ n → get_or (pad n xs) i 0 ≡ get_or xs i 0
+get_or_pad n xs i h = ap (λ t. get_or t i 0) (pad_is n xs h) ∙ get_or_zeros (n - length xs) xs i
 
 pub pad_set : (n : ℕ) (xs : List ℕ) (i v : ℕ) → length xs ≤ n → i < length xs → set (pad n xs) i v ≡ pad n (set xs i v)
 pad_set n xs i v h l =
@@ -106,14 +106,14 @@ pub sum_pad : (n : ℕ) (c : Clock) → length c ≤ n → sum (pad n c) ≡ sum
 sum_pad n c h = ap sum (pad_is n c h) ∙ sum_zeros c (n - length c)
 
 pub tick_pad : (n : ℕ) (c : Clock) (i : ℕ) → length c ≤ n → i < length c → tick (pad n c) i ≡ pad n (tick c i)
-tick_pad n c i h l = ap (λ t. set (pad n c) i (suc t)) (getD_pad n c i h) ∙ pad_set n c i (suc (at c i)) h l
+tick_pad n c i h l = ap (λ t. set (pad n c) i (suc t)) (get_or_pad n c i h) ∙ pad_set n c i (suc (at c i)) h l
 
 pub small_pad : (n : ℕ) (c : Clock) → length c ≤ n → Small c → Small (pad n c)
-small_pad n c h s i = rw (getD_pad n c i h) (s i)
+small_pad n c h s i = rw (get_or_pad n c i h) (s i)
 
 -- PUTS: of the code's put for a put of the model, the model says the same
 pub number_code : (q : Put Body) → Fit q → number (put_of (code_put q)) ≡ number q
-number_code q f = ap suc (getD_pad clock_size q.seen q.from f.seen)
+number_code q f = ap suc (get_or_pad clock_size q.seen q.from f.seen)
 
 pub later_code : (p q : Put Body) → Fit p → Fit q → later (put_of (code_put p)) (put_of (code_put q)) ≡ later p q
 later_code p q f g =
@@ -123,13 +123,13 @@ later_code p q f g =
     ∙ ap (λ x. ltb x (sum p.seen) || (eqb x (sum p.seen) && ltb q.from p.from)) t
 
 pub had_code : (c : Clock) (q : Put Body) → length c ≤ clock_size → Fit q → had (pad clock_size c) (put_of (code_put q)) ≡ had c q
-had_code c q h f = ap (λ x. leb x (at (pad clock_size c) q.from)) (number_code q f) ∙ ap (leb (number q)) (getD_pad clock_size c q.from h)
+had_code c q h f = ap (λ x. leb x (at (pad clock_size c) q.from)) (number_code q f) ∙ ap (leb (number q)) (get_or_pad clock_size c q.from h)
 
 pub ready_code : (d e : Delivery Body) (q : Put Body) → e.clock ≡ pad clock_size d.clock → length q.seen ≡ length d.clock → Fit q → ready e (put_of (code_put q)) ≡ ready d q
 ready_code d e q ec n f =
     let c : Clock = d.clock in
     let h : length c ≤ clock_size = omega (arith, f.seen) in
-    let a : at e.clock q.from ≡ at c q.from = ap (λ x. at x q.from) ec ∙ getD_pad clock_size c q.from h in
+    let a : at e.clock q.from ≡ at c q.from = ap (λ x. at x q.from) ec ∙ get_or_pad clock_size c q.from h in
     let b : below (pad clock_size q.seen) e.clock ≡ below q.seen c = ap (below (pad clock_size q.seen)) ec ∙ below_pad clock_size q.seen c n f.seen in
     ap (λ x. eqb x (suc (at e.clock q.from)) && below (pad clock_size q.seen) e.clock) (number_code q f)
     ∙ ap (λ x. eqb (number q) (suc x) && below (pad clock_size q.seen) e.clock) a ∙ ap (λ x. eqb (number q) (suc (at c q.from)) && x) b

@@ -12,7 +12,7 @@ use Rattle.puts.specs.declared.Put.{Put}
 use Rattle.puts.specs.Values.{clock_size, pad, Small, Bytes, code_put, Fit}
 use Rattle.puts.specs.Words.{slot_size, packed, unpacked, put_words, put_in, head_in, if_put, Slot, slot_words, code_slot, code_head, FitSlot}
 use Rattle.puts.proofs.Blocks.{drop_after}
-use Rattle.puts.proofs.Padded.{pad_length, getD_pad, small_pad}
+use Rattle.puts.proofs.Padded.{pad_length, get_or_pad, small_pad}
 use Rattle.puts.proofs.Bytes.{packed_length, unpacked_packed, packed_below}
 
 front2 : (s : List ℕ) (a b : ℕ) → 2 ≤ length s → take 2 (set (set s 0 a) 1 b) ≡ a ∷ b ∷ []
@@ -65,7 +65,7 @@ words_back q f =
     let m : List ℕ = 0 ∷ 0 ∷ model.key_of q.body ∷ length v ∷ [] in
     let rest : List ℕ = m ++ (packed bs ++ z) in
     let lc = pad_length clock_size q.seen in
-    let fits : Bytes bs = λ i. rw (getD_pad value_most v i f.value) (f.bytes i) in
+    let fits : Bytes bs = λ i. rw (get_or_pad value_most v i f.value) (f.bytes i) in
     let e₁ : take 16 (cs ++ rest) ≡ cs = take_at cs rest 16 lc in
     let e₂ : get_or (cs ++ rest) 18 0 ≡ model.key_of q.body = get_or-append_right cs rest 16 18 0 lc (omega arith) in
     let e₃ : get_or (cs ++ rest) 19 0 ≡ length v = get_or-append_right cs rest 16 19 0 lc (omega arith) in
@@ -112,7 +112,7 @@ unfolding put_words
 head_is q f =
     let cs : List ℕ = pad clock_size q.seen in
     let rest : List ℕ = (0 ∷ 0 ∷ model.key_of q.body ∷ length (model.value_of q.body) ∷ []) ++ (packed (pad value_most (model.value_of q.body)) ++ (0 ∷ 0 ∷ [])) in
-    let b : get_or (take 16 (cs ++ rest)) q.from 0 ≡ get_or q.seen q.from 0 = ap (λ x. get_or x q.from 0) (take_at cs rest 16 (pad_length clock_size q.seen)) ∙ getD_pad clock_size q.seen q.from f.seen in
+    let b : get_or (take 16 (cs ++ rest)) q.from 0 ≡ get_or q.seen q.from 0 = ap (λ x. get_or x q.from 0) (take_at cs rest 16 (pad_length clock_size q.seen)) ∙ get_or_pad clock_size q.seen q.from f.seen in
     let n : (get_or (take 16 (cs ++ rest)) q.from 0 + 1) % 2 ^ 64 ≡ model.number q = omega (arith, f.number) in
     λ i. record { from = q.from; number = n i }
 
@@ -137,7 +137,7 @@ words_below q f small lf lk =
     let v : List ℕ = model.value_of q.body in
     let cs : List ℕ = pad clock_size q.seen in
     let bs : List ℕ = pad value_most v in
-    let fits : Bytes bs = λ i. rw (getD_pad value_most v i f.value) (f.bytes i) in
+    let fits : Bytes bs = λ i. rw (get_or_pad value_most v i f.value) (f.bytes i) in
     let z : 0 < 2 ^ 64 = omega arith in
     let counts : AllByRecursion P cs = All-from_get_or P cs 0 (λ i h. omega (arith, small_pad clock_size q.seen f.seen small i)) in
     let value : AllByRecursion P (packed bs) = All-from_get_or P (packed bs) 0 (packed_below bs fits) in

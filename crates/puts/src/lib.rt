@@ -4,7 +4,7 @@
 ghost use Rattle.std.specs.Prelude.{◌≡◌, ◌^◌, ◌<◌, ◌≤◌, true, length, replicate, Decides, MatchOption};
 ghost use Rattle.model.specs.Limits.{count_bound, value_most};
 ghost use Rattle.model.specs.Clock.{at as count_at, sum as sum_of, below as is_below, join as joined_with, tick};
-ghost use Rattle.model.specs.Put.{number as number_of_lem, later as is_later, had as has_put, Body};
+ghost use Rattle.model.specs.Put.{number as number_of, later as is_later, had as has_put, Body};
 ghost use Rattle.model.specs.Delivery.{Delivery, ready as is_ready};
 ghost use Rattle.puts.specs.Values.{clock_size, Small, Bytes, put_of, code_text, value_in};
 
@@ -133,7 +133,7 @@ impl Text {
 impl Put {
     // Its number among the puts of its replica, from 1.
     pub fn number(&self) -> u64
-        ensures { number_of_lem (put_of self.now) < 2 ^ 64 → result ≡ number_of_lem (put_of self.now) }
+        ensures { number_of (put_of self.now) < 2 ^ 64 → result ≡ number_of (put_of self.now) }
     {
         self.seen.count(self.from).wrapping_add(1)
     }

@@ -7,7 +7,7 @@ use Rattle.model.specs.Limits.{Limits, count_bound}
 use Rattle.model.specs.Put.{Put, Body, good_body, good_head, number}
 use Rattle.model.specs.Replica.{came, in_range}
 use Rattle.puts.specs.Values.{pad}
-use Rattle.puts.proofs.Padded.{getD_pad}
+use Rattle.puts.proofs.Padded.{get_or_pad}
 
 pub first_fails : (a b : Bool) → a ≡ false → (a && b) ≡ false
 first_fails false b e = refl
@@ -31,13 +31,13 @@ clock_long l c h = eqb-true (length c) l.replicas (first_of (eqb (length c) l.re
 -- the number is one more than the count, which sixteen counts hold too
 module _ (c : Clock) (i n : ℕ) (long : length c ≤ 16) (e : n ≡ at (pad 16 c) i) where
   pub number_out : 4294967295 ≤ n → ltb (suc (at c i)) count_bound ≡ false
-  number_out h = let z = e ∙ getD_pad 16 c i long in over (at c i) (omega (arith, z))
+  number_out h = let z = e ∙ get_or_pad 16 c i long in over (at c i) (omega (arith, z))
     where
       over : (k : ℕ) → 4294967295 ≤ k → ltb (suc k) count_bound ≡ false
       over k h = grind (arith, nat_tests)
 
   pub number_in : n < 4294967295 → ltb (suc (at c i)) count_bound ≡ true
-  number_in h = let z = e ∙ getD_pad 16 c i long in lt-ltb (suc (at c i)) count_bound (omega (arith, z))
+  number_in h = let z = e ∙ get_or_pad 16 c i long in lt-ltb (suc (at c i)) count_bound (omega (arith, z))
 
 -- a put that came: the first test that fails, or all hold
 module _ (l : Limits) (p : Put Body) where

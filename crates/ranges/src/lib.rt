@@ -9,7 +9,7 @@ ghost use Rattle.model.specs.Replica.{came, in_range as is_in_range};
 ghost use Rattle.puts.specs.Values.{code_clock, code_put, code_text};
 ghost use Rattle.ranges.specs.Checked.{Handed, code_event};
 ghost use Rattle.wire.specs.Reading.{clock_in};
-ghost use Rattle.wire.specs.Said.{body as body_of, event as eventOf, put_of};
+ghost use Rattle.wire.specs.Said.{body as body_of, event as event_in, put_of};
 ghost use Rattle.std.specs.Prelude.{◌≡◌, nat_lt};
 
 use memory::Limits;
@@ -105,7 +105,7 @@ fn put_in_range(limits: Limits, put: PutBytes<'_>) -> Option<Put>
 
 // The event by value, if all of it is in range.
 pub fn in_range(limits: Limits, event: Event<'_>) -> Option<Checked>
-    ensures { (l : ModelLimits) → code_limits l ≡ limits → InRange limits → Handed (is_in_range l (eventOf event.entry)) (code_event (eventOf event.entry)) result }
+    ensures { (l : ModelLimits) → code_limits l ≡ limits → InRange limits → Handed (is_in_range l (event_in event.entry)) (code_event (event_in event.entry)) result }
 {
     match event {
         Event::Put { body } => {

@@ -44,7 +44,7 @@ pub own_is : (l : Limits) (r : Replica) (x : Place) (n : ℕ) → Valid l r → 
 own_is l r x n v a f = f (subst (λ k. k < l.replicas) (sym a.me) v.fits.delivery.me) ∙ ap (at r.delivery.clock) a.me
 
 -- room for an own put in the log, and a number
-module _ (l : Limits) (r : Replica) (b : Body) (own held most : ℕ) (is-own : own ≡ own_count r) (is_held_lem : held ≡ length r.delivery.log) (is-most : most ≡ l.log_most) where
+module _ (l : Limits) (r : Replica) (b : Body) (own held most : ℕ) (is_own : own ≡ own_count r) (is_held : held ≡ length r.delivery.log) (is_most : most ≡ l.log_most) where
   pub log_full : most ≤ held → log_room l r.delivery (put b) ≡ false
   unfolding log_room
   log_full g = first_fails (ltb (length r.delivery.log) l.log_most) (ltb (suc (own_count r)) count_bound) (le-ltb (length r.delivery.log) l.log_most (omega arith))
@@ -77,12 +77,12 @@ module _ (l : Limits) (r : Replica) (q : Put Body) (p : CodePut) (v : Valid l r)
   pub had_is : (c : CodeClock) (b : Bool) → c ≡ code_clock r.delivery.clock → b ≡ had c.counts (put_of p) → b ≡ had r.delivery.clock q
   had_is c b f g = g ∙ (λ i. had (f i).counts (put_of (e i))) ∙ had_code r.delivery.clock q (subst (λ n. n ≤ clock_size) (sym v.fits.delivery.clock) v.fits.delivery.replicas) s.fit
 
-  module _ (me : ℕ) (b : Bool) (is-me : me ≡ r.delivery.me) (is_had : b ≡ had r.delivery.clock q) where
+  module _ (me : ℕ) (b : Bool) (is_me : me ≡ r.delivery.me) (is_had : b ≡ had r.delivery.clock q) where
     pub possible_no : p.from ≡ me → b ≡ false → possible r.delivery (came q) ≡ false
     unfolding possible
     possible_no f g =
         neither_holds (not (eqb q.from r.delivery.me)) (had r.delivery.clock q)
-        (ap not (eq-eqb q.from r.delivery.me (sym (ap (λ x. x.from) e) ∙ f ∙ is-me))) (sym is_had ∙ g)
+        (ap not (eq-eqb q.from r.delivery.me (sym (ap (λ x. x.from) e) ∙ f ∙ is_me))) (sym is_had ∙ g)
 
     pub possible_had : b ≡ true → possible r.delivery (came q) ≡ true
     unfolding possible
@@ -92,7 +92,7 @@ module _ (l : Limits) (r : Replica) (q : Put Body) (p : CodePut) (v : Valid l r)
     unfolding possible
     possible_other f =
         left_holds (not (eqb q.from r.delivery.me)) (had r.delivery.clock q)
-        (ap not (ne_eqb q.from r.delivery.me (λ z. f (ap (λ x. x.from) e ∙ z ∙ sym is-me))))
+        (ap not (ne_eqb q.from r.delivery.me (λ z. f (ap (λ x. x.from) e ∙ z ∙ sym is_me))))
 
 -- room for it in the queue
 module _ (l : Limits) (r : Replica) (q : Put Body) where

@@ -3,12 +3,12 @@
 
 ghost use Rattle.logs.specs.State.{Holds, Laid, Ranged};
 ghost use Rattle.model.specs.Clock.{Clock as ModelClock};
-ghost use Rattle.model.specs.Delivery.{reply as replyOf};
+ghost use Rattle.model.specs.Delivery.{reply as reply_of};
 ghost use Rattle.model.specs.Limits.{Limits as ModelLimits};
 ghost use Rattle.memory.specs.State.{own_count};
 ghost use Rattle.memory.specs.Valid.{Sound};
 ghost use Rattle.model.specs.Put.{Body, Put as ModelPut, good_body, text as text_of};
-ghost use Rattle.model.specs.Replica.{Event as ModelEvent, Replica, came as cameOf, get as getOf, has as has_of, in_range as is_in_range, legible, log_room, possible, put as put_of, queue_room as has_queue_room, tell as tellOf};
+ghost use Rattle.model.specs.Replica.{Event as ModelEvent, Replica, came as came_of, get as get_of, has as has_of, in_range as is_in_range, legible, log_room, possible, put as put_of, queue_room as has_queue_room, tell as tell_of};
 ghost use Rattle.puts.specs.Values.{Bytes, code_clock, code_put, code_text};
 ghost use Rattle.model.specs.Program.{AnswersRight, MemoryBounded, Program, RefusalKeepsMemory, readable};
 ghost use Rattle.ranges.specs.Checked.{Handed, code_event};
@@ -78,7 +78,7 @@ fn put(mem: &mut [u64], at: Place, key: u64, text: Text) -> Answer
 
 // The clock, if the put that came can be: one of this replica's own was made here.
 fn possible_put(mem: &[u64], at: Place, p: &Put) -> Option<Clock>
-    ensures { (l : ModelLimits) (r : Replica) (q : ModelPut Body) → Holds l r mem.now → Laid l r.delivery.me at → Sound l q → p.now ≡ code_put q → Handed (possible r.delivery (cameOf q)) (code_clock r.delivery.clock) result }
+    ensures { (l : ModelLimits) (r : Replica) (q : ModelPut Body) → Holds l r mem.now → Laid l r.delivery.me at → Sound l q → p.now ≡ code_put q → Handed (possible r.delivery (came_of q)) (code_clock r.delivery.clock) result }
 {
     let clock = clock_of(mem);
     let mine = p.from == at.me as u64;
@@ -92,7 +92,7 @@ fn possible_put(mem: &[u64], at: Place, p: &Put) -> Option<Clock>
 // How many wait, if the put that came need not wait or finds room.
 fn queue_room(mem: &[u64], at: Place, p: &Put) -> Option<usize>
     requires { Ranged at }
-    ensures { (l : ModelLimits) (r : Replica) (q : ModelPut Body) → Holds l r mem.now → Laid l r.delivery.me at → Sound l q → p.now ≡ code_put q → Handed (has_queue_room l r.delivery (cameOf q)) (length r.delivery.waiting) result }
+    ensures { (l : ModelLimits) (r : Replica) (q : ModelPut Body) → Holds l r mem.now → Laid l r.delivery.me at → Sound l q → p.now ≡ code_put q → Handed (has_queue_room l r.delivery (came_of q)) (length r.delivery.waiting) result }
 {
     let waiting = waiting(mem, at);
     if waiting < at.layout.waiting.count {
@@ -109,7 +109,7 @@ fn queue_room(mem: &[u64], at: Place, p: &Put) -> Option<usize>
 // A put came.
 fn came(mem: &mut [u64], at: Place, p: &Put) -> Answer
     requires { Ranged at }
-    ensures { (l : ModelLimits) (r : Replica) (q : ModelPut Body) → Holds l r mem.old → Laid l r.delivery.me at → AllSupported l → Sound l q → is_in_range l (cameOf q) ≡ true → p.now ≡ code_put q → Acted l r (cameOf q) mem.new (says_in l.replicas result) }
+    ensures { (l : ModelLimits) (r : Replica) (q : ModelPut Body) → Holds l r mem.old → Laid l r.delivery.me at → AllSupported l → Sound l q → is_in_range l (came_of q) ≡ true → p.now ≡ code_put q → Acted l r (came_of q) mem.new (says_in l.replicas result) }
 {
     let Some(_clock) = possible_put(mem, at, p) else {
         return refused(3);
@@ -136,7 +136,7 @@ fn possible_clock(mem: &[u64], at: Place, clock: &Clock) -> Option<u64>
 // The logged puts that a clock lacks, the earliest first, eight at most.
 fn reply(mem: &[u64], at: Place, clock: &Clock) -> [Option<Put>; 8]
     requires { Ranged at }
-    ensures { (l : ModelLimits) (r : Replica) (c : ModelClock) → Holds l r mem.now → Laid l r.delivery.me at → length c ≡ l.replicas → clock.now ≡ code_clock c → some_puts l.replicas result ≡ replyOf c r.delivery }
+    ensures { (l : ModelLimits) (r : Replica) (c : ModelClock) → Holds l r mem.now → Laid l r.delivery.me at → length c ≡ l.replicas → clock.now ≡ code_clock c → some_puts l.replicas result ≡ reply_of c r.delivery }
 {
     [
         reply_at(mem, at, clock, 0),
@@ -166,7 +166,7 @@ fn has(mem: &mut [u64], at: Place, replica: u64, clock: &Clock) -> Answer
 // What stands at a key.
 fn get(mem: &[u64], at: Place, key: u64) -> Answer
     requires { Ranged at }
-    ensures { (l : ModelLimits) (r : Replica) → Holds l r mem.now → AllSupported l → key < l.keys → Acted l r (getOf key) mem.now (says_in l.replicas result) }
+    ensures { (l : ModelLimits) (r : Replica) → Holds l r mem.now → AllSupported l → key < l.keys → Acted l r (get_of key) mem.now (says_in l.replicas result) }
 {
     match value_at(mem, at, key) {
         None => Answer::Nothing,
@@ -176,7 +176,7 @@ fn get(mem: &[u64], at: Place, key: u64) -> Answer
 
 // Its clock.
 fn tell(mem: &[u64]) -> Answer
-    ensures { (l : ModelLimits) (r : Replica) → Holds l r mem.now → AllSupported l → Acted l r tellOf mem.now (says_in l.replicas result) }
+    ensures { (l : ModelLimits) (r : Replica) → Holds l r mem.now → AllSupported l → Acted l r tell_of mem.now (says_in l.replicas result) }
 {
     Answer::Clock {
         clock: clock_of(mem),

@@ -4,10 +4,10 @@
 ghost use Rattle.std.specs.Prelude.{◌≡◌, ℕ, ◌≤◌, true, [], ◌∷◌, length};
 ghost use Rattle.logs.specs.State.{Holds, Laid, Ranged};
 ghost use Rattle.model.specs.Clock.{Clock as ModelClock};
-ghost use Rattle.model.specs.Delivery.{reply as replyOf};
+ghost use Rattle.model.specs.Delivery.{reply as reply_of};
 ghost use Rattle.model.specs.Limits.{Limits as ModelLimits, value_most};
 ghost use Rattle.model.specs.Program.{readable};
-ghost use Rattle.model.specs.Replica.{Event as ModelEvent, Replica, answer as answer_of, in_range, puts as putsOf, refused};
+ghost use Rattle.model.specs.Replica.{Event as ModelEvent, Replica, answer as answer_of, in_range, puts as puts_of, refused};
 ghost use Rattle.puts.specs.Values.{code_clock, value_in};
 ghost use Rattle.calls.specs.Answered.{code_answer, one_put};
 ghost use Rattle.replies.specs.Written.{Writes, answer_most, item_most};
@@ -79,7 +79,7 @@ fn put_one(out: &mut [u8], tag: u8, put: &Put, replicas: usize) -> usize
 fn put_reply(out: &mut [u8], mem: &[u64], at: Place, clock: &Clock) -> usize
     requires room { answer_most ≤ length out.old }
     requires place { Ranged at }
-    ensures { Writes result out.old out.new (λ b. (l : ModelLimits) (r : Replica) (c : ModelClock) → Holds l r mem.now → Laid l r.delivery.me at → length c ≡ l.replicas → clock.now ≡ code_clock c → b ≡ write_answer (putsOf (replyOf c r.delivery))) }
+    ensures { Writes result out.old out.new (λ b. (l : ModelLimits) (r : Replica) (c : ModelClock) → Holds l r mem.now → Laid l r.delivery.me at → length c ≡ l.replicas → clock.now ≡ code_clock c → b ≡ write_answer (puts_of (reply_of c r.delivery))) }
 {
     let mut to = put_bytes(out, 0, &[1]);
     for i in 0..REPLY_MOST {

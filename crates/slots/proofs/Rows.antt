@@ -7,7 +7,7 @@ use Rattle.std.proofs.lemmas.Bool.{cases_lt, cond-true, cond-false, le-leb, lt-l
 use Rattle.puts.specs.Values.{pad}
 use Rattle.puts.specs.Words.{Slot, slot_words}
 use Rattle.puts.proofs.Blocks.{joined_read, joined_write, joined_at, joined_set, read_left, write_left}
-use Rattle.puts.proofs.Padded.{pad_length, getD_pad, pad_set}
+use Rattle.puts.proofs.Padded.{pad_length, get_or_pad, pad_set}
 use Rattle.slots.specs.Image.{row_size, row_count, header_size, header, memory, has_row, row_at, with_row, has_word, word_at, with_word}
 use Rattle.slots.specs.Laws.{RowLaws}
 use Rattle.slots.proofs.Slots.{header_length, memory_length}
@@ -93,7 +93,7 @@ module _ (rs : List (List ℕ)) (ss : List Slot) (r : ℕ) (h : length rs ≡ ro
   word_is i b le =
       cond-true (has_word r i (memory rs ss)) (get_or (memory rs ss) (row_size * r + i) 0) 0 (word_there (memory rs ss) r i b l long)
       ∙ get_or_append_left (header rs) (flat_map slot_words ss) 0 (row_size * r + i) (omega (arith, within))
-      ∙ joined_at (pad row_size) row_size (pad_length row_size) rs r i [] 0 (omega arith) b ∙ getD_pad row_size (get_or rs r []) i le
+      ∙ joined_at (pad row_size) row_size (pad_length row_size) rs r i [] 0 (omega arith) b ∙ get_or_pad row_size (get_or rs r []) i le
 
   word_written : (i v : ℕ) → i < length (get_or rs r []) → length (get_or rs r []) ≤ row_size → with_word r i v (memory rs ss) ≡ memory (set rs r (set (get_or rs r []) i v)) ss
   unfolding with_word header

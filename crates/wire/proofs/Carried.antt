@@ -10,7 +10,7 @@ use Rattle.model.specs.Delivery.{Delivery, learned, all_have, Run, begin, take_o
 use Rattle.model.specs.Store.{Store, shown, stand, stored_all}
 use Rattle.model.specs.Replica.{Replica, new_replica, Event, put, get, came, has, tell, garbled, refused, in_range, log_room, event_number, Check, checks, first_failing, refusal, accepted, place, moves, moved, says, answer, after, replica}
 use Rattle.model.specs.Program.{byte_bound, word_bound, all_below, readable, all_readable}
-use Rattle.model.proofs.Lists.{set_split, getD_either, in_append, in_kept}
+use Rattle.model.proofs.Lists.{set_split, get_or_either, in_append, in_kept}
 use Rattle.model.proofs.Clocks.{small_of}
 use Rattle.model.proofs.Steps.{next_of, settle_keeps, deliver_is, in_reply}
 use Rattle.model.proofs.Replica.{Passed, passed}
@@ -53,7 +53,7 @@ module _ (can : ℕ → Bool) (l : Limits) (good : GoodLimits can l) where
       let from = ltb-true p.from l.replicas front.0 in
       let counts = eqb-true (length p.seen) l.replicas clock.0 in
       let size = length_put p in
-      let text-size = length_text p.body in
+      let text_size = length_text p.body in
       let most = good.replicas.1 in
       let keys = good.keys.1 in
       and_from _ _
@@ -188,7 +188,7 @@ module _ (l : Limits) where
       log = nothing_taken;
       waiting = nothing_taken;
     },
-    λ k. elim (getD_either [] l.keys [] k) [ inl e ↦ subst Slot (sym e) (nothing_taken, omega arith) | inr e ↦ subst Slot (sym e) (nothing_taken, omega arith) ],
+    λ k. elim (get_or_either [] l.keys [] k) [ inl e ↦ subst Slot (sym e) (nothing_taken, omega arith) | inr e ↦ subst Slot (sym e) (nothing_taken, omega arith) ],
   )
 
   replica_carries : (i : ℕ) (es : List Event) → i < l.replicas → all_readable es ≡ true → ReplicaCarries (replica l i es)

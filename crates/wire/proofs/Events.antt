@@ -160,8 +160,8 @@ place_by s (bad p x q e t g a w r) n h =
     let m : length p ≡ n = place_of (length p) n (read s) (ap read (sym a) ∙ ap event_in (r q)) h in
     let long : length p + suc (length q) ≡ length s = sym (length-append p (x ∷ q)) ∙ ap length a in
     let front : take n s ≡ p = ap (take n) (sym a) ∙ take_at p (x ∷ q) n m in
-    let with-x : take (suc n) s ≡ p ++ (x ∷ []) = ap (take (suc n)) (sym a ∙ sym (append_assoc p (x ∷ []) q)) ∙ take_at (p ++ (x ∷ [])) q (suc n) (simp length-append (omega arith)) in
-    (omega arith, subst Begins (sym front) (begun p t e g w), λ less b. not_begun p x r (take (suc n) s) with-x b)
+    let with_x : take (suc n) s ≡ p ++ (x ∷ []) = ap (take (suc n)) (sym a ∙ sym (append_assoc p (x ∷ []) q)) ∙ take_at (p ++ (x ∷ [])) q (suc n) (simp length-append (omega arith)) in
+    (omega arith, subst Begins (sym front) (begun p t e g w), λ less b. not_begun p x r (take (suc n) s) with_x b)
 
 pub place_right : PlaceRight
 place_right s n k = place_by s (event_view s k) n

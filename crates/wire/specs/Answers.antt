@@ -1,5 +1,5 @@
 -- How bytes are read as answers. Definitions only.
-use Rattle.std.specs.Prelude.{ℕ, zero, suc, Bool, true, cond, ◌&&◌, List, [], ◌∷◌, length, get_or, take, drop, Some, None, Option, ◌==◌, nat_le, nat_lt, slice_index, slice_index_or}
+use Rattle.std.specs.Prelude.{ℕ, zero, suc, Bool, true, cond, ◌&&◌, List, [], ◌∷◌, length, take, drop, Some, None, Option, ◌==◌, nat_le, nat_lt, slice_index, slice_index_or}
 use Rattle.model.specs.Put.{Put, Body}
 use Rattle.model.specs.Replica.{came, Answer, refused, puts, value, clock_is}
 use Rattle.model.specs.Program.{word_bound, all_below, readable}
@@ -70,7 +70,7 @@ refused_answer s = cond (length s == 16) (Some (refused (number_in s) (number_in
 -- THE ANSWER that bytes are, or none
 unfoldable pub read_answer : List ℕ → Option Answer
 read_answer s =
-    let t : ℕ = get_or s 0 4 in
+    let t : ℕ = slice_index_or s 0 4 in
     let r : List ℕ = drop 1 s in
     cond (t == 0) (refused_answer r)
     (cond (t == 1) (puts_answer (puts_in r)) (cond (t == 2) (value_answer (puts_in r)) (cond (t == 3) (clock_answer r (clock_size r)) None)))

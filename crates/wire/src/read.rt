@@ -2,7 +2,7 @@
 ghost use Rattle.model.specs.Replica.{came, get, put, tell};
 ghost use Rattle.std.specs.Prelude.{◌≡◌, IfErr};
 ghost use Rattle.wire.specs.Reading.{has_told, mapped, read, read_body as body_read, read_key, read_nothing, read_parts, read_put as put_read, read_told};
-ghost use Rattle.wire.specs.Said.{Within, event as eventOf, part, said};
+ghost use Rattle.wire.specs.Said.{Within, event as event_in, part, said};
 ghost use Rattle.wire.specs.Theorems.{AllBytes, ReadsRight};
 
 use crate::event::{ClockBytes, Event, NO_EVENT, Refusal};
@@ -10,7 +10,7 @@ use crate::number::{number, rest};
 use crate::parts::{read_body, read_clock, read_put};
 
 fn put_event(bytes: &[u8]) -> Result<Event<'_>, usize>
-    ensures is { part eventOf result ≡ mapped put (body_read bytes.now) }
+    ensures is { part event_in result ≡ mapped put (body_read bytes.now) }
     ensures within { Within result bytes.now }
 {
     match read_body(bytes) {
@@ -20,7 +20,7 @@ fn put_event(bytes: &[u8]) -> Result<Event<'_>, usize>
 }
 
 fn get_event(bytes: &[u8]) -> Result<Event<'_>, usize>
-    ensures is { part eventOf result ≡ mapped get (read_key bytes.now) }
+    ensures is { part event_in result ≡ mapped get (read_key bytes.now) }
     ensures within { Within result bytes.now }
 {
     let Some(key) = number(bytes) else {
@@ -33,7 +33,7 @@ fn get_event(bytes: &[u8]) -> Result<Event<'_>, usize>
 }
 
 fn came_event(bytes: &[u8]) -> Result<Event<'_>, usize>
-    ensures is { part eventOf result ≡ mapped came (put_read bytes.now) }
+    ensures is { part event_in result ≡ mapped came (put_read bytes.now) }
     ensures within { Within result bytes.now }
 {
     match read_put(bytes) {
@@ -43,7 +43,7 @@ fn came_event(bytes: &[u8]) -> Result<Event<'_>, usize>
 }
 
 fn has_event(bytes: &[u8]) -> Result<Event<'_>, usize>
-    ensures is { part eventOf result ≡ mapped has_told (read_told bytes.now) }
+    ensures is { part event_in result ≡ mapped has_told (read_told bytes.now) }
     ensures within { Within result bytes.now }
 {
     let Some(replica) = number(bytes) else {
@@ -64,7 +64,7 @@ fn has_event(bytes: &[u8]) -> Result<Event<'_>, usize>
 }
 
 fn tell_event(bytes: &[u8]) -> Result<Event<'_>, usize>
-    ensures is { part eventOf result ≡ mapped (λ _. tell) (read_nothing bytes.now) }
+    ensures is { part event_in result ≡ mapped (λ _. tell) (read_nothing bytes.now) }
     ensures within { Within result bytes.now }
 {
     if bytes.len() > 0 {
@@ -74,7 +74,7 @@ fn tell_event(bytes: &[u8]) -> Result<Event<'_>, usize>
 }
 
 fn event_of(tag: u8, bytes: &[u8]) -> Result<Event<'_>, usize>
-    ensures is { part eventOf result ≡ read_parts tag bytes.now }
+    ensures is { part event_in result ≡ read_parts tag bytes.now }
     ensures within { Within result bytes.now }
 {
     match tag {

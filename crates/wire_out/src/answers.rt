@@ -1,6 +1,6 @@
 // Answers, each written into a lent slice: none if there is no room, and then it is as before; else how many bytes.
 ghost use Rattle.std.specs.Prelude.{◌≡◌, ◌+◌, ◌≤◌, [], ◌∷◌, map, length};
-ghost use Rattle.model.specs.Replica.{clock_is, puts as putsOf, refused, value as value_of};
+ghost use Rattle.model.specs.Replica.{clock_is, puts as puts_of, refused, value as value_of};
 ghost use Rattle.wire.specs.Bytes.{write_answer as answer_written, write_puts as puts_written, write_item};
 ghost use Rattle.wire_out.specs.Said.{answer as answer_of, none_or_one, put_of};
 ghost use Rattle.wire_out.specs.Written.{Appended, Written, Wrote, capped};
@@ -45,7 +45,7 @@ pub fn write_refused(out: &mut [u8], refusal: Refusal) -> Option<usize>
 }
 
 pub fn write_puts(out: &mut [u8], puts: &[Put<'_>]) -> Option<usize>
-    ensures { Written result out.old out.new (answer_written (putsOf (map put_of puts.now))) }
+    ensures { Written result out.old out.new (answer_written (puts_of (map put_of puts.now))) }
 {
     if out.len() <= puts_len(puts) {
         return None;

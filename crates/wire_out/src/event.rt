@@ -1,5 +1,5 @@
 // Events, each written into a lent slice: none if there is no room, and then it is as before; else how many bytes.
-ghost use Rattle.model.specs.Replica.{came as cameOf, get as getOf, has as has_of, put as put_of, tell as tellOf};
+ghost use Rattle.model.specs.Replica.{came as came_of, get as get_of, has as has_of, put as put_of, tell as tell_of};
 ghost use Rattle.wire.specs.Bytes.{write_event};
 ghost use Rattle.wire.specs.Said.{body as body_of};
 ghost use Rattle.wire_out.specs.Said.{put_of as put_meant};
@@ -21,7 +21,7 @@ pub fn write_put(out: &mut [u8], body: Body<'_>) -> Option<usize>
 }
 
 pub fn write_get(out: &mut [u8], key: u64) -> Option<usize>
-    ensures { Written result out.old out.new (write_event (getOf key)) }
+    ensures { Written result out.old out.new (write_event (get_of key)) }
 {
     if out.len() < 9 {
         return None;
@@ -31,7 +31,7 @@ pub fn write_get(out: &mut [u8], key: u64) -> Option<usize>
 }
 
 pub fn write_came(out: &mut [u8], put: Put<'_>) -> Option<usize>
-    ensures { Written result out.old out.new (write_event (cameOf (put_meant put.entry))) }
+    ensures { Written result out.old out.new (write_event (came_of (put_meant put.entry))) }
 {
     if out.len() <= put_len(put) {
         return None;
@@ -52,7 +52,7 @@ pub fn write_has(out: &mut [u8], replica: u64, clock: &[u64]) -> Option<usize>
 }
 
 pub fn write_tell(out: &mut [u8]) -> Option<usize>
-    ensures { Written result out.old out.new (write_event tellOf) }
+    ensures { Written result out.old out.new (write_event tell_of) }
 {
     if out.len() < 1 {
         return None;

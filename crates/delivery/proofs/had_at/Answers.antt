@@ -1,6 +1,6 @@
 use Rattle.std.proofs.Common.{leb, sym, ◌∙◌}
 use Rattle.model.specs.Clock.{at}
-use Rattle.puts.proofs.Padded.{getD_pad}
+use Rattle.puts.proofs.Padded.{get_or_pad}
 use Rattle.delivery.proofs.Reading.{none_some, some_some, head_there}
 use Rattle.delivery.proofs.had_at.Goals as goal
 
@@ -11,5 +11,5 @@ pub returns : goal.returns
 returns c =
     λ rs ss q x n h o t k e em.
     let z = some_some _ _ (sym c.in-Some.is ∙ head_there rs ss _ _ q _ n h o t em c.read_head.ensures) in
-    let a = c.count.ensures ∙ (λ i. at (e i).counts (z i).from) ∙ getD_pad 16 x q.from k in
+    let a = c.count.ensures ∙ (λ i. at (e i).counts (z i).from) ∙ get_or_pad 16 x q.from k in
     λ i. leb (z i).number (a i)

@@ -3,7 +3,7 @@ use Rattle.std.proofs.lemmas.Bool.{ne_eqb, and_left}
 use Rattle.model.specs.Clock.{at, below}
 use Rattle.model.specs.Put.{Put, Body, number}
 use Rattle.model.specs.Delivery.{ready}
-use Rattle.puts.proofs.Padded.{getD_pad}
+use Rattle.puts.proofs.Padded.{get_or_pad}
 use Rattle.delivery.proofs.Reading.{none_some, some_some, head_here, put_here, chosen_none, chosen_some, ready_is}
 use Rattle.delivery.proofs.ready_at.Goals as goal
 
@@ -17,7 +17,7 @@ returns-then-head-count c =
     let cl = r.delivery.clock in
     let v = f.fits.delivery in
     let z = some_some _ _ (sym c.in-Some.is ∙ head_here l r _ f _ c.args.i w.waiting.0 h d _ c.read_head.ensures) in
-    let a : c.count.result ≡ at cl q.from = c.count.ensures ∙ (λ i. at (k i).counts (z i).from) ∙ getD_pad 16 cl q.from (omega (arith, v.clock, v.replicas)) in
+    let a : c.count.result ≡ at cl q.from = c.count.ensures ∙ (λ i. at (k i).counts (z i).from) ∙ get_or_pad 16 cl q.from (omega (arith, v.clock, v.replicas)) in
     let b : c.in-Some.head.number ≡ number q = λ i. (z i).number in
     chosen_none (ready r.delivery q) q
     (and_left (eqb (number q) (suc (at cl q.from))) (below q.seen cl) (ne_eqb (number q) (suc (at cl q.from)) (λ e. c.if-head-count.true (omega (arith, v.small q.from)))))

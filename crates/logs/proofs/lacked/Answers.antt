@@ -1,7 +1,7 @@
 use Rattle.std.proofs.Common.{ap, ◌∙◌, arith}
 use Rattle.model.specs.Clock.{at}
 use Rattle.puts.specs.declared.Clock.{Clock}
-use Rattle.puts.proofs.Padded.{getD_pad}
+use Rattle.puts.proofs.Padded.{get_or_pad}
 use Rattle.logs.proofs.Changes.{fitted}
 use Rattle.logs.proofs.lacked.Goals as goal
 
@@ -11,6 +11,6 @@ returns c =
     let d = r.delivery in
     let f = fitted l r _ h in
     let o = c.count_of-own.ensures l r f (omega (arith, f.fits.delivery.me, w.me)) ∙ ap (at d.clock) w.me in
-    let t = c.count.ensures ∙ ap (λ (y : Clock). at y.counts c.args.at.me) e ∙ getD_pad 16 x c.args.at.me (omega (arith, f.fits.delivery.replicas)) ∙ ap (at x) w.me in
+    let t = c.count.ensures ∙ ap (λ (y : Clock). at y.counts c.args.at.me) e ∙ get_or_pad 16 x c.args.at.me (omega (arith, f.fits.delivery.replicas)) ∙ ap (at x) w.me in
     let m = c.logged.ensures.count l r f w h.valid.shaped.room in
     omega arith
