@@ -1,14 +1,12 @@
 -- What an event is answered, by the checks that it passes.
-use Rattle.std.proofs.Common.{◌≡◌, ℕ, zero, suc, ◌<◌, ◌≤◌, Bool, true, false, cond, ◌&&◌, eqb, ltb, ◌⊎◌, List, [], ◌∷◌, length, get_or, take, sym, refl, ap, ◌∙◌, subst, inl, inr, arith, eq-eqb, ne_eqb}
-use borrow.Author.Tests.{clash}
+use Rattle.std.proofs.Common.{◌≡◌, ℕ, zero, suc, Bool, true, false, cond, ◌&&◌, ◌⊎◌, refl, ap, ◌∙◌, inl, inr, arith, eq-eqb, ne_eqb}
 use Rattle.model.specs.Limits.{Limits}
 use Rattle.model.specs.Put.{Put, Body}
-use Rattle.model.specs.Delivery.{Delivery}
-use Rattle.model.specs.Replica.{Replica, Event, Answer, refused, legible, in_range, possible, log_room, queue_room, event_number, first_failing, place, refusal, moved, moves, says, answer, after}
-use Rattle.model.proofs.Replica.{Passed, pass, answer_accepted, after_accepted, refusal_changes_nothing}
-use Rattle.puts.specs.Values.{clock_size, code_put, narrow, put_of}
-use Rattle.puts.proofs.Padded.{put_back, take_pad}
-use Rattle.memory.specs.Valid.{Sound, Valid}
+use Rattle.model.specs.Replica.{Replica, Event, legible, in_range, possible, log_room, queue_room, event_number, first_failing, place, refusal, after}
+use Rattle.model.proofs.Replica.{pass, refusal_changes_nothing}
+use Rattle.puts.specs.Values.{code_put}
+use Rattle.puts.proofs.Padded.{put_back}
+use Rattle.memory.specs.Valid.{Sound}
 use Rattle.memory.specs.declared.Refusal.{Refusal}
 use Rattle.calls.specs.Answered.{AllSupported, code_answer, code_says, one_put}
 use Rattle.calls.specs.declared.Answer.{Answer as CodeAnswer}

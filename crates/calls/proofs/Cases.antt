@@ -1,17 +1,15 @@
 -- Which event a value stands for.
-use Rattle.std.proofs.Common.{◌≡◌, ℕ, zero, suc, ◌<◌, Bool, true, false, ◌&&◌, ltb, List, [], ◌∷◌, get_or, sym, refl, ap, ◌∙◌, subst, arith, ltb-true}
+use Rattle.std.proofs.Common.{◌≡◌, ℕ, zero, suc, ◌<◌, Bool, true, false, ◌&&◌, ltb, List, [], ◌∷◌, refl, subst, arith, ltb-true}
 use borrow.Author.Tests.{clash}
-use Rattle.model.specs.Clock.{Clock}
 use Rattle.model.specs.Limits.{Limits}
 use Rattle.model.specs.Put.{Put, Body, text, good_body, value_of}
 use Rattle.model.specs.Program.{all_below, byte_bound, readable, readable_body, word_bound}
 use Rattle.model.specs.Replica.{Event, put, get, came, has, tell, garbled, legible, in_range}
-use Rattle.puts.specs.Values.{Bytes, code_clock, code_put, code_text}
+use Rattle.puts.specs.Values.{Bytes, code_put, code_text}
 use Rattle.puts.specs.declared.Put.{Put as CodePut}
 use Rattle.puts.specs.declared.Text.{Text}
 use Rattle.ranges.specs.Checked.{code_event}
-use Rattle.ranges.specs.declared.Checked.{Checked}
-use Rattle.ranges.specs.declared.Checked.TheVariants.{Put as Put', Get, Came, Has, Tell}
+use Rattle.ranges.specs.declared.Checked.TheVariants.{Put as Put', Get, Came, Tell}
 
 never : {A : Type 0} → ◌≡◌ {A = ℕ} 0 1 → A
 never z = absurd (omega arith)

@@ -1,21 +1,20 @@
 -- Each event, over what the code reads and does.
-use Rattle.std.proofs.Common.{◌≡◌, ℕ, zero, suc, ◌<◌, ◌≤◌, Bool, true, false, not, ◌&&◌, ◌||◌, eqb, ltb, leb, List, [], ◌∷◌, length, get_or, take, drop, Some, None, Option, sym, refl, ap, ◌∙◌, subst, arith, le-ltb, lt-ltb, eq-eqb, ne_eqb}
+use Rattle.std.proofs.Common.{◌≡◌, ℕ, suc, ◌<◌, ◌≤◌, Bool, true, false, not, ◌||◌, eqb, ltb, List, [], ◌∷◌, length, Some, None, Option, sym, refl, ap, ◌∙◌, subst, arith, le-ltb, lt-ltb, eq-eqb, ne_eqb}
 use borrow.Author.Tests.{clash}
-use Rattle.model.specs.Limits.{Limits, count_bound, reply_most}
-use Rattle.model.specs.Clock.{Clock, at, good_clock}
-use Rattle.model.specs.Put.{Put, Body, text, had, good_body}
-use Rattle.model.specs.Delivery.{Delivery, begin, nothing_new, ready, learned, reply, stamped, take_one, deliver}
-use Rattle.model.specs.Store.{shown, stored_all}
+use Rattle.model.specs.Limits.{Limits, count_bound}
+use Rattle.model.specs.Clock.{Clock, at}
+use Rattle.model.specs.Put.{Put, Body, had, good_body}
+use Rattle.model.specs.Delivery.{nothing_new, ready}
 use Rattle.model.specs.Replica.{Replica, Event, put, get, came, has, tell, legible, in_range, possible, log_room, queue_room, refusal, place, moved, moves, after}
-use Rattle.puts.specs.Values.{clock_size, code_clock, code_put, pad, put_of}
+use Rattle.puts.specs.Values.{clock_size, code_clock, code_put, put_of}
 use Rattle.puts.specs.Words.{Slot, code_slot}
 use Rattle.puts.specs.declared.Put.{Put as CodePut}
 use Rattle.puts.specs.declared.Clock.{Clock as CodeClock}
-use Rattle.puts.proofs.Padded.{had_code, take_pad}
-use Rattle.memory.specs.Valid.{Sound, SoundSlot, AllSound, Valid}
+use Rattle.puts.proofs.Padded.{had_code}
+use Rattle.memory.specs.Valid.{Sound, SoundSlot, Valid}
 use Rattle.memory.specs.State.{own_count}
 use Rattle.ranges.proofs.Tests.{both_hold, first_fails, rest_fails}
-use Rattle.logs.specs.State.{Fitted, Holds, Laid, nth_of}
+use Rattle.logs.specs.State.{Holds, Laid}
 use Rattle.logs.specs.declared.Place.{Place}
 use Rattle.model.proofs.Replica.{after_accepted, after_keeps}
 use Rattle.calls.specs.Answered.{AllSupported, code_answer, code_says, one_put}

@@ -1,7 +1,6 @@
 -- What an answer of the code says.
-use Rattle.std.proofs.Common.{◌≡◌, ℕ, zero, suc, ◌<◌, true, cond, List, [], ◌∷◌, length, take, sym, refl, ap, ◌∙◌, arith, ne_eqb}
+use Rattle.std.proofs.Common.{◌≡◌, ℕ, zero, suc, ◌<◌, true, cond, [], ◌∷◌, sym, refl, ap, ◌∙◌, arith, ne_eqb}
 use Rattle.model.specs.Limits.{Limits}
-use Rattle.model.specs.Put.{Put, Body, value_of}
 use Rattle.model.specs.Delivery.{reply, stamped}
 use Rattle.model.specs.Store.{shown}
 use Rattle.model.specs.Program.{readable}

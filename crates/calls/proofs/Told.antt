@@ -1,22 +1,15 @@
 -- Clocks that were told.
-use Rattle.std.proofs.Common.{◌≡◌, ℕ, zero, suc, ◌<◌, ◌≤◌, Bool, true, false, ◌&&◌, eqb, ltb, leb, List, [], ◌∷◌, length, get_or, take, drop, Some, None, Option, sym, refl, ap, ◌∙◌, subst, inl, inr, arith, ltb-true, le-leb}
+use Rattle.std.proofs.Common.{◌≡◌, ℕ, ◌<◌, ◌≤◌, Bool, true, false, ◌&&◌, ltb, length, sym, refl, ◌∙◌, subst, arith, ltb-true, le-leb}
 use borrow.Author.Tests.{lt-leb}
-use Rattle.model.specs.Lists.{In}
-use Rattle.model.specs.Limits.{Limits, count_bound, reply_most}
-use Rattle.model.specs.Clock.{Clock, at, good_clock, small}
-use Rattle.model.specs.Put.{Put, Body}
-use Rattle.model.specs.Delivery.{Delivery, reply}
+use Rattle.model.specs.Limits.{Limits}
+use Rattle.model.specs.Clock.{Clock, at, good_clock}
 use Rattle.model.specs.Replica.{Replica, has, in_range, possible}
-use Rattle.model.proofs.Steps.{in_reply}
-use Rattle.puts.specs.Values.{Small, clock_size, code_clock, code_put}
-use Rattle.puts.specs.Words.{code_slot}
+use Rattle.puts.specs.Values.{Small, clock_size, code_clock}
 use Rattle.puts.specs.declared.Clock.{Clock as CodeClock}
-use Rattle.puts.specs.declared.Put.{Put as CodePut}
 use Rattle.puts.proofs.Padded.{get_or_pad}
 use Rattle.memory.specs.State.{own_count}
-use Rattle.memory.specs.Valid.{AllSound, Sound, Valid}
+use Rattle.memory.specs.Valid.{Valid}
 use Rattle.memory.proofs.Sound.{clock_fits}
-use Rattle.logs.specs.State.{nth_of}
 
 -- THE CLOCK THAT WAS TOLD
 module _ (l : Limits) (r : Replica) (j : ℕ) (c : Clock) (own told me : ℕ) (k : CodeClock) (v : Valid l r) (is_own : own ≡ own_count r) (is_me : me ≡ r.delivery.me) (long : length c ≡ l.replicas) (e : k ≡ code_clock c) (is_told : told ≡ at k.counts me) where

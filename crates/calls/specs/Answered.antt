@@ -1,5 +1,5 @@
 -- What an event is answered, as a value of the code, and what an answer of the code says. Definitions only.
-use Rattle.std.specs.Prelude.{◌≡◌, ℕ, true, cond, List, [], ◌∷◌, take, Some, None, Option}
+use Rattle.std.specs.Prelude.{◌≡◌, ℕ, true, cond, [], ◌∷◌, take, Some, None, Option}
 use Rattle.model.specs.Limits.{Limits}
 use Rattle.model.specs.Put as model
 use Rattle.model.specs.Delivery.{Delivery, reply, stamped}

@@ -1,30 +1,12 @@
 -- Rounds of asking can always be carried out by calls on bytes.
-use Rattle.std.proofs.Common.{◌≡◌, ℕ, zero, suc, ◌+◌, ◌*◌, ◌%◌, ◌/◌, ◌<◌, ◌≤◌, Bool, true, false, ◌&&◌, eqb, ltb, ◌≢◌, ◌⊎◌, List, [], ◌∷◌, ◌++◌, length, replicate, Some, None, Option, sym, refl, ap, ◌∙◌, subst, inl, inr, arith, length-append}
+use Rattle.std.proofs.Common.{◌≡◌, ℕ, ◌%◌, ◌/◌, true, ltb, List, [], ◌∷◌, ◌++◌, refl, arith}
 use Rattle.std.proofs.lemmas.Nat.{mod_below}
-use Rattle.std.proofs.lemmas.Bool.{and_from, and_parts, cases_lt, cond_both, lt-ltb}
-use Rattle.model.specs.Lists.{In}
-use Rattle.model.specs.Limits.{Limits}
+use Rattle.std.proofs.lemmas.Bool.{and_from, and_parts, lt-ltb}
 use Rattle.model.specs.Clock.{Clock}
 use Rattle.model.specs.Put.{Put, Body, text, value_of}
-use Rattle.model.specs.Delivery.{reply}
-use Rattle.model.specs.Program.{all_below, byte_bound, readable, readable_body, word_bound}
-use Rattle.model.specs.Replica.{Replica, Event, Answer, put, get, came, has, tell, garbled, puts, refused, clock_is, accepted, refusal, place, says, answer}
-use Rattle.model.specs.Cluster.{Cluster, Told, Brought, clock_at, is_put, puts_of, stepped}
-use Rattle.model.proofs.Orders.{replied_made}
-use Rattle.memory.specs.Valid.{Sound, Valid}
-use Rattle.wire.specs.Bytes.{write_body, write_clock, write_counts, write_event, write_number, write_put}
-use Rattle.wire.specs.Reading.{read}
-use Rattle.wire.specs.Answers.{read_answer}
+use Rattle.model.specs.Program.{all_below, byte_bound}
+use Rattle.wire.specs.Bytes.{write_body, write_clock, write_counts, write_number, write_put}
 use Rattle.wire.specs.Theorems.{AllBytes}
-use Rattle.wire.proofs.Events.{reads_back}
-use Rattle.wire.proofs.Views.{length_clock}
-use Rattle.replies.proofs.Replies.{reply_sound}
-use Rattle.endpoint.specs.Call.{Calls}
-use Rattle.endpoint.specs.Life.{System, Lent, Run, stop, then, Says, moved}
-use Rattle.endpoint.specs.Rounds.{Calm, Comes, Hears, Asks, Round, Rounds, none, more, puts_in}
-use Rattle.endpoint.proofs.Follows.{Follows, call_follows, call_says}
-use Rattle.endpoint.proofs.Happens.{happens}
-use Rattle.endpoint.proofs.Lives.{run_on, tell_answer}
 
 -- WRITTEN BYTES ARE BYTES
 bytes_both : (xs ys : List ℕ) → AllBytes xs → AllBytes ys → AllBytes (xs ++ ys)

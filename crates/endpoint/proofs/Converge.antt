@@ -1,20 +1,20 @@
 -- Rounds of calls are rounds of the model's cluster.
-use Rattle.std.proofs.Common.{◌≡◌, ℕ, zero, suc, ◌*◌, ◌<◌, ◌≤◌, ◌≢◌, ◌⊎◌, List, [], ◌∷◌, length, Some, None, Option, sym, refl, ap, ◌∙◌, subst, inl, inr, arith}
+use Rattle.std.proofs.Common.{◌≡◌, ℕ, suc, List, [], ◌∷◌, length, Some, sym, refl, ap, ◌∙◌, subst, inl, inr, arith}
 use Rattle.model.specs.Limits.{Limits}
 use Rattle.model.specs.Clock.{Clock}
 use Rattle.model.specs.Put.{Put, Body}
-use Rattle.model.specs.Replica.{Event, Answer, came, has, tell, puts, clock_is, answer}
+use Rattle.model.specs.Replica.{Event, Answer, came, has, tell, clock_is, answer}
 use Rattle.model.specs.Cluster.{Cluster, Brought, clock_at, puts_of, stepped}
 use Rattle.model.specs.Convergence as model
 use Rattle.model.proofs.Converge.{converges}
 use Rattle.wire.specs.Answers.{read_answer}
 use Rattle.wire.specs.Reading.{read}
 use Rattle.wire.specs.Bytes.{write_answer}
-use Rattle.endpoint.specs.Life.{System, Life, Run, stop, then, Says}
+use Rattle.endpoint.specs.Life.{System, Run, stop, then}
 use Rattle.endpoint.specs.Rounds.{Calm, Comes, Hears, Asks, Round, Rounds, none, more, puts_in}
-use Rattle.endpoint.specs.Theorems.{AllTheSame, LivesConverge}
+use Rattle.endpoint.specs.Theorems.{LivesConverge}
 use Rattle.endpoint.proofs.Follows.{Follows, call_follows, call_says, run_follows, started_follows, turns}
-use Rattle.endpoint.proofs.Lives.{gets_same, one_clock, tell_answer, tell_says}
+use Rattle.endpoint.proofs.Lives.{gets_same, tell_answer, tell_says}
 
 -- the same turn
 same_turn : (i k : ℕ) (e x : Event) → k ≡ i → x ≡ e → model.turn k x ≡ model.turn i e

@@ -1,11 +1,10 @@
 -- A life of running replicas follows one of the model's cluster: each memory is the image of a replica there.
-use Rattle.std.proofs.Common.{◌≡◌, ℕ, ◌<◌, Bool, true, false, cond, eqb, List, [], ◌∷◌, ◌++◌, Some, None, Option, sym, refl, ap, ◌∙◌, subst}
-use Rattle.std.proofs.lemmas.Bool.{eqb-true, and_from}
+use Rattle.std.proofs.Common.{◌≡◌, ℕ, ◌<◌, Bool, true, false, cond, eqb, List, [], ◌∷◌, ◌++◌, Some, sym, refl, ap, ◌∙◌, subst}
+use Rattle.std.proofs.lemmas.Bool.{and_from}
 use Rattle.model.specs.Limits.{Limits, GoodLimits}
-use Rattle.model.specs.Put.{Put, Body}
 use Rattle.model.specs.Program.{readable, all_readable}
-use Rattle.model.specs.Replica.{Replica, Event, answer, after, new_replica, replica}
-use Rattle.model.specs.Cluster.{Told, Cluster, Brought, Reachable, start, step, new_cluster, stepped, trace, made_by, told_by, update}
+use Rattle.model.specs.Replica.{Replica, Event, answer, after}
+use Rattle.model.specs.Cluster.{Cluster, Brought, Reachable, start, step, new_cluster, stepped, trace}
 use Rattle.model.specs.Convergence.{Turn, turn, ran}
 use Rattle.model.proofs.Trace.{replica_is}
 use Rattle.memory.specs.Layout.{InRange, code_limits}

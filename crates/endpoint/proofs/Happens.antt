@@ -1,9 +1,9 @@
 -- Lives of clusters happen: openings and calls have an outcome, and only one.
-use Rattle.std.proofs.Common.{◌≡◌, ℕ, ◌<◌, ◌≤◌, List, [], ◌++◌, length, take, drop, replicate, sym, refl, ap, ◌∙◌, subst, arith}
+use Rattle.std.proofs.Common.{◌≡◌, ℕ, List, [], ◌++◌, length, take, drop, replicate, sym, refl, ap, ◌∙◌, subst, arith}
 use Rattle.std.proofs.lemmas.List.{append-nil, drop_all, drop_at, length-replicate, take_at}
 use Rattle.model.specs.Limits.{Limits}
 use Rattle.model.specs.Replica.{Replica, answer, after, new_replica}
-use Rattle.memory.specs.Layout.{InRange, code_limits, layout_of, total, words}
+use Rattle.memory.specs.Layout.{InRange, code_limits, total, words}
 use Rattle.memory.specs.Image.{encode, rows, slots}
 use Rattle.memory.specs.Valid.{Valid}
 use Rattle.memory.proofs.Images.{encode_length}
@@ -14,9 +14,9 @@ use Rattle.wire.specs.Reading.{read}
 use Rattle.wire.proofs.Events.{read_is_readable}
 use Rattle.calls.specs.Answered.{AllSupported}
 use Rattle.endpoint.specs.Call.{Calls, Does}
-use Rattle.endpoint.specs.Life.{System, Started, Lent, Life}
+use Rattle.endpoint.specs.Life.{System, Started, Lent}
 use Rattle.endpoint.specs.Theorems.{LivesHappen}
-use Rattle.endpoint.proofs.Follows.{Follows, does, run_follows, started_follows}
+use Rattle.endpoint.proofs.Follows.{does, run_follows, started_follows}
 use Rattle.endpoint.proofs.Stays.{valid_after}
 
 -- ONE MEMORY is the image of one state

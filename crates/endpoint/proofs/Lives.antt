@@ -1,25 +1,24 @@
 -- What holds of the model's cluster holds of the running replicas.
-use Rattle.std.proofs.Common.{◌≡◌, ℕ, ◌<◌, ◌≤◌, Bool, true, false, cond, ◌&&◌, List, [], ◌∷◌, length, take, drop, Some, None, Option, sym, refl, ap, ◌∙◌, subst, arith}
+use Rattle.std.proofs.Common.{◌≡◌, ℕ, ◌<◌, ◌≤◌, Bool, true, false, cond, List, [], ◌∷◌, length, take, drop, Some, sym, refl, ap, ◌∙◌, subst, arith}
 use Rattle.std.proofs.lemmas.Bool.{leb-true, le-leb}
 use Rattle.model.specs.Lists.{In}
 use Rattle.model.specs.Limits.{Limits}
 use Rattle.model.specs.Clock.{Clock, at, below}
 use Rattle.model.specs.Put.{Put, Body, had, number}
 use Rattle.model.specs.Store.{of_key, latest}
-use Rattle.model.specs.Replica.{Replica, Event, Answer, put, get, tell, refused, puts, value, clock_is, event_number, legible, in_range, possible, log_room, queue_room, accepted, refusal, place, says, answer, clock_of}
+use Rattle.model.specs.Replica.{Replica, put, get, tell, refused, puts, value, clock_is, event_number, legible, in_range, possible, log_room, queue_room, accepted, refusal, place, says, answer, clock_of}
 use Rattle.model.specs.Cluster.{Cluster, clock_at}
 use Rattle.model.proofs.Clocks.{below_at}
 use Rattle.model.proofs.Cluster.{inv}
 use Rattle.model.proofs.Replica.{answer_accepted, pass}
 use Rattle.model.proofs.Theorems.{causally_closed, same_clock_same_view, shows_latest}
-use Rattle.wire.specs.Answers.{read_answer}
 use Rattle.wire.specs.Bytes.{write_answer}
 use Rattle.calls.specs.Answered.{AllSupported}
 use Rattle.replies.specs.Written.{Writes, answer_most}
 use Rattle.endpoint.proofs.Steps.{back, front}
 use Rattle.endpoint.specs.Call.{Calls}
 use Rattle.endpoint.specs.Life.{System, Lent, Run, stop, then, Life, Answers, Says, moved}
-use Rattle.endpoint.specs.Theorems.{Tells, Lives, SameView, LifeRight, EveryLifeRight, InEveryLife, LivesOn}
+use Rattle.endpoint.specs.Theorems.{Tells, Lives, SameView, LifeRight, EveryLifeRight, InEveryLife}
 use Rattle.endpoint.proofs.Follows.{Follows, answered, run_follows, started_follows}
 
 -- a tell is answered by the clock

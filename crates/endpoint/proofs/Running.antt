@@ -1,5 +1,5 @@
 -- A program after any events, by induction over them.
-use Rattle.std.proofs.Common.{◌≡◌, ℕ, ◌+◌, ◌*◌, ◌^◌, ◌<◌, ◌≤◌, Bool, true, ◌&&◌, ltb, List, [], ◌∷◌, ◌++◌, length, drop, Ok, Err, Result, sym, refl, ap, ◌∙◌, subst, arith, MatchResult}
+use Rattle.std.proofs.Common.{◌≡◌, ℕ, ◌+◌, ◌*◌, ◌<◌, ◌≤◌, true, ◌&&◌, List, [], ◌∷◌, ◌++◌, length, Ok, Err, Result, sym, refl, ap, ◌∙◌, subst, arith}
 use Rattle.std.proofs.lemmas.Bool.{lt-ltb, and_parts}
 use Rattle.std.proofs.lemmas.List.{append-nil, drop_all}
 use Rattle.std.specs.List.{AllByRecursion}
@@ -16,11 +16,9 @@ use Rattle.memory.specs.declared.Refusal.{Refusal}
 use Rattle.memory.proofs.Images.{encode_length}
 use Rattle.memory.proofs.Sound.{words_fit}
 use Rattle.wire.specs.Answers.{read_answer}
-use Rattle.wire.specs.Bytes.{write_answer, write_event}
-use Rattle.wire.specs.Reading.{read}
+use Rattle.wire.specs.Bytes.{write_answer}
 use Rattle.wire.proofs.Events.{reads_back}
 use Rattle.wire.proofs.Carried.{replica_answers_read_back}
-use Rattle.endpoint.specs.Call.{Does}
 use Rattle.endpoint.specs.Running.{Runs, all_events}
 
 -- the memory is the image of a valid state, and nothing beyond it

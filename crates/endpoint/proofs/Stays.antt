@@ -1,12 +1,11 @@
 -- Every event leaves a valid state valid.
-use Rattle.std.proofs.Common.{◌≡◌, ℕ, zero, suc, ◌+◌, ◌<◌, ◌≤◌, Bool, true, false, cond, not, ◌≢◌, List, [], ◌∷◌, ◌++◌, length, get_or, set, filter, sym, refl, ap, ◌∙◌, subst, inl, inr, arith}
+use Rattle.std.proofs.Common.{◌≡◌, ℕ, zero, suc, ◌<◌, ◌≤◌, Bool, true, false, cond, not, ◌≢◌, List, [], ◌∷◌, ◌++◌, length, get_or, set, filter, sym, refl, ◌∙◌, subst, arith}
 use Rattle.std.proofs.lemmas.List.{length_push}
 use Rattle.std.proofs.lemmas.Bool.{and_parts}
-use Rattle.model.specs.Lists.{In}
 use Rattle.model.specs.Limits.{Limits}
 use Rattle.model.specs.Clock.{Clock, join, tick}
-use Rattle.model.specs.Put.{Put, Body, had, value_of}
-use Rattle.model.specs.Delivery.{Delivery, Run, all_have, begin, deliver, enqueued, lacking, learned, pruned, ready, stamped, take_one, settle}
+use Rattle.model.specs.Put.{Put, Body, had}
+use Rattle.model.specs.Delivery.{Run, all_have, begin, lacking, learned, pruned, ready, stamped, take_one, settle}
 use Rattle.model.specs.Store.{Store, stored, stored_all}
 use Rattle.model.specs.Program.{readable}
 use Rattle.model.specs.Replica.{Replica, Event, put, get, came, has, tell, garbled, event_number, in_range, refusal, moved, moves, after}
@@ -15,7 +14,7 @@ use Rattle.model.proofs.Steps.{deliver_is, own_ready, settle_keeps}
 use Rattle.puts.specs.Values.{Small}
 use Rattle.puts.proofs.Padded.{join_length}
 use Rattle.memory.specs.State.{with_clock, with_known, with_log, with_store, with_waiting}
-use Rattle.memory.specs.Valid.{AllSound, Fits, Shaped, Sound, Valid}
+use Rattle.memory.specs.Valid.{Fits, Shaped, Sound, Valid}
 use Rattle.memory.proofs.Sound.{came_sound, no_put}
 use Rattle.memory.proofs.State.{fits_log}
 use Rattle.logs.proofs.Changes.{cons_sound, fits_known, fits_tick, join_small, shaped_known, shaped_pruned}

@@ -1,8 +1,8 @@
 -- A call over bytes and memory: what is refused before the event happens, and the memory around it.
-use Rattle.std.proofs.Common.{◌≡◌, ℕ, suc, ◌+◌, ◌*◌, ◌<◌, ◌≤◌, Bool, true, false, cond, ◌&&◌, List, [], ◌∷◌, ◌++◌, length, take, drop, Ok, Err, Result, sym, refl, ap, ◌∙◌, subst, arith, ne_eqb}
+use Rattle.std.proofs.Common.{◌≡◌, ℕ, suc, ◌+◌, ◌*◌, true, false, cond, ◌&&◌, List, ◌++◌, take, drop, Ok, Result, sym, refl, ap, ◌∙◌, subst, arith, ne_eqb}
 use Rattle.std.proofs.lemmas.List.{take_at, drop_at}
 use Rattle.model.specs.Limits.{Limits}
-use Rattle.model.specs.Replica.{Replica, Event, Answer, refused, garbled, legible, in_range, event_number, first_failing, place, refusal, says, answer, after}
+use Rattle.model.specs.Replica.{Replica, Event, refused, garbled, legible, in_range, event_number, first_failing, place, refusal, says, answer, after}
 use Rattle.model.proofs.Replica.{refusal_changes_nothing}
 use Rattle.memory.specs.Layout.{code_limits, model_limits, total, words}
 use Rattle.memory.specs.Image.{encode}

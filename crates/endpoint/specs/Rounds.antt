@@ -3,7 +3,7 @@ use Rattle.std.specs.Prelude.{◌≡◌, ℕ, suc, ◌<◌, false, ◌≢◌, �
 use Rattle.model.specs.Limits.{Limits}
 use Rattle.model.specs.Clock.{Clock}
 use Rattle.model.specs.Put.{Put, Body}
-use Rattle.model.specs.Replica.{Event, Answer, came, has, tell, clock_is}
+use Rattle.model.specs.Replica.{Answer, came, has, tell, clock_is}
 use Rattle.model.specs.Cluster.{is_put, puts_of}
 use Rattle.wire.specs.Reading.{read}
 use Rattle.wire.specs.Answers.{read_answer}

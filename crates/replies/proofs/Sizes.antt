@@ -1,7 +1,7 @@
 -- How long an answer is at most.
-use Rattle.std.proofs.Common.{◌≡◌, ℕ, suc, ◌+◌, ◌*◌, ◌≤◌, List, [], ◌∷◌, ◌++◌, length, sym, refl, ap, ◌∙◌, arith, length-append}
+use Rattle.std.proofs.Common.{◌≡◌, ◌+◌, ◌≤◌, length, arith}
 use Rattle.model.specs.Put.{Put, Body, text, value_of}
-use Rattle.wire.specs.Bytes.{write_body, write_clock, write_item, write_number, write_put}
+use Rattle.wire.specs.Bytes.{write_body, write_item}
 use Rattle.wire.proofs.Views.{length_clock}
 use Rattle.replies.specs.Written.{item_most}
 

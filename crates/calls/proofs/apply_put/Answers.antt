@@ -1,4 +1,4 @@
-use Rattle.std.proofs.Common.{◌≡◌, ℕ, sym, refl, ◌∙◌, subst, inl, inr, arith}
+use Rattle.std.proofs.Common.{◌≡◌, ℕ, sym, refl, subst, inl, inr, arith}
 use Rattle.model.specs.Delivery.{stamped}
 use Rattle.model.specs.Replica.{moves, put}
 use Rattle.model.proofs.Replica.{passed}

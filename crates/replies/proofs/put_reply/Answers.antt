@@ -1,4 +1,4 @@
-use Rattle.std.proofs.Common.{◌≡◌, ℕ, List, [], ◌∷◌, ◌++◌, length, take, sym, refl, ap, ◌∙◌, arith}
+use Rattle.std.proofs.Common.{◌≡◌, [], ◌∷◌, ◌++◌, length, take, sym, refl, ap, ◌∙◌, arith}
 use Rattle.std.specs.List.{flat_map}
 use Rattle.model.specs.Clock.{Clock}
 use Rattle.model.specs.Delivery.{reply}
@@ -10,7 +10,7 @@ use Rattle.wire.specs.Bytes.{write_item}
 use Rattle.calls.specs.Answered.{one_put}
 use Rattle.wire_out.proofs.Overs.{then_wrote, wrote_nothing}
 use Rattle.wire_out.proofs.Sizes.{puts_parts}
-use Rattle.replies.proofs.Replies.{items, next_item, no_next, reply_sound, reply_whole}
+use Rattle.replies.proofs.Replies.{next_item, no_next, reply_sound, reply_whole}
 use Rattle.replies.proofs.put_reply.Goals as goal
 use Rattle.replies.proofs.put_reply.Goals.{else-loop-i-test, then-loop-i-test+in_default}
 

@@ -1,4 +1,4 @@
-use Rattle.std.proofs.Common.{◌≡◌, length, take, ap, arith}
+use Rattle.std.proofs.Common.{take, ap, arith}
 use Rattle.std.proofs.lemmas.List.{length-take}
 use Rattle.model.specs.Put.{text}
 use Rattle.replies.proofs.Sizes.{item_size}
