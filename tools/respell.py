@@ -97,6 +97,11 @@ def outside(text, f):
     return "".join(out) + f(text[at:])
 
 
+def in_comments(text, names):
+    """A comment that names a theorem names it as it is spelled."""
+    return re.sub(r"//[^\n]*|--[^\n]*", lambda c: TOKEN.sub(lambda m: turned(m[1]) if m[1] in names and m[1][0].isupper() else m[1], c[0]), text)
+
+
 def rust_words(text):
     words = set()
     outside(text, lambda t: words.update(re.findall(r"(?<![\w'-])[A-Za-z_][\w']*(?![\w'-])", t)) or t)
@@ -124,7 +129,7 @@ def turn(path, names):
             return re.sub(r"(?<![\w'])(?<! as )" + ALIASES[n] + r"(?![\w'])", turned(n) + " as " + ALIASES[n], line)
 
         made = re.sub(r"(?m)^\s*ghost use [^\n;]*;", use, made)
-    return text, made
+    return text, in_comments(made, names)
 
 
 # Names that have no dash to turn, or that are bound inside a definition or a lemma; and a word of the library's older name.

@@ -75,7 +75,7 @@ memory_bounded can a bounded l i es good b read =
     bounded (limits l) i (map event es) (good_is can l good) b (sym (all_readable_is es) ∙ read) in
     (omega (arith, t.0, ap length (memory_is a l i es)), (below_same word_bound (s.memory (flat a) l i es) ∙ ap (all_below word_bound) (memory_is a l i es)) ∙ t.1)
 
--- WITHOUT GET nothing is shown: so Shows-latest needs that it is supported
+-- WITHOUT GET nothing is shown: so ShowsLatest needs that it is supported
 pub without_get : (can : ℕ → Bool) → can 1 ≡ false → s.ShowsLatest can → ⊥
 unfolding f.pick f.event_number f.refusal_by f.good_fields f.place g.replica_at g.all_new g.of_key g.latest
 without_get can n all =

@@ -33,23 +33,23 @@ pub record PremisesMet : Type 0 where
   pub reachable_1 : Reachable three (after_rows 1)
   pub reachable_9 : Reachable three (after_rows 9)
   pub reachable_14 : Reachable three (after_rows 14)
-  -- Refusal-changes-nothing
+  -- RefusalChangesNothing
   pub refused : 0 < refusal three ((after_rows 10).replica 0) (put (text 1 (6 ∷ [])))
-  -- Again-changes-nothing
+  -- AgainChangesNothing
   pub again : had (clock_at (after_rows 9) 1) c1 ≡ true
-  -- Shows-latest, for a key at which several were put
+  -- ShowsLatest, for a key at which several were put
   pub shown : of_key 0 (clock_at (after_rows 15) 0) (after_rows 15).made ≡ c1 ∷ b1 ∷ a1 ∷ []
-  -- Causally-closed, Seen-is-earlier, Later-is-total
+  -- CausallyClosed, SeenIsEarlier, LaterIsTotal
   pub made : In a1 (after_rows 15).made × In b1 (after_rows 15).made × In c1 (after_rows 15).made
   pub seen : had b1.seen a1 ≡ true
   pub taken : had (clock_at (after_rows 15) 2) b1 ≡ true
-  -- Same-clock-same-view
+  -- SameClockSameView
   pub same_clock : clock_at (after_rows 9) 0 ≡ clock_at (after_rows 9) 1
-  -- Reads-own-put, where others stand at that key
+  -- ReadsOwnPut, where others stand at that key
   pub accepted : refusal three ((after_rows 9).replica 0) (put (text 0 (4 ∷ []))) ≡ 0
-  -- Ready-is-taken
+  -- ReadyIsTaken
   pub came : In a1 (after_rows 1).made × (ready ((after_rows 1).replica 1).delivery a1 ≡ true)
-  -- Pruned-is-everywhere
+  -- PrunedIsEverywhere
   pub pruned : In a1 (after_rows 14).made × (In a1 ((after_rows 14).replica 0).delivery.log → ⊥)
   -- Converges, where something is lacking; and what comes of it
   pub reachable_two : Reachable two behind
