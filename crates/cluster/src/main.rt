@@ -6,6 +6,7 @@ mod play;
 use play::Play;
 use std::fs::File;
 use std::io::{BufRead, BufReader, BufWriter, Read, Write};
+use std::process::ExitCode;
 use std::{env, io};
 
 // Plays all lines of `input`.
@@ -36,14 +37,23 @@ fn report(rt: &HostRuntime, name: &str, played: io::Result<()>) -> io::Result<()
     played
 }
 
-fn main(rt: HostRuntime) -> io::Result<()> {
-    let mut words = env::args(&rt)?.skip(1);
+// Plays what the words after the program's name say.
+fn run(rt: &HostRuntime) -> io::Result<()> {
+    let mut words = env::args(rt)?.skip(1);
     let Some(path) = words.next() else {
-        return report(&rt, "standard input", play_all(&rt, rt.stdin()));
+        return report(rt, "standard input", play_all(rt, rt.stdin()));
     };
     if words.next().is_some() {
         eprintln!(rt; "cluster: one script at a time: cluster [FILE]")?;
         return Err(io::ErrorKind::InvalidInput.into());
     }
-    report(&rt, path.as_str(), play_file(&rt, path.as_str()))
+    report(rt, path.as_str(), play_file(rt, path.as_str()))
+}
+
+// What went wrong was said where it happened.
+fn main(rt: HostRuntime) -> ExitCode {
+    match run(&rt) {
+        Ok(()) => ExitCode::SUCCESS,
+        Err(_) => ExitCode::FAILURE,
+    }
 }

@@ -9,6 +9,7 @@ mod usage;
 use play::Play;
 use std::fs::File;
 use std::io::{BufRead, BufReader, BufWriter, IsTerminal, Read, Write};
+use std::process::ExitCode;
 use std::{env, io};
 use usage::USAGE;
 
@@ -55,10 +56,11 @@ fn report(rt: &HostRuntime, name: &str, played: io::Result<()>) -> io::Result<()
     played
 }
 
-fn main(rt: HostRuntime) -> io::Result<()> {
-    let mut words = env::args(&rt)?.skip(1);
+// Plays what the words after the program's name say.
+fn run(rt: &HostRuntime) -> io::Result<()> {
+    let mut words = env::args(rt)?.skip(1);
     let Some(word) = words.next() else {
-        return report(&rt, "standard input", play_all(&rt, rt.stdin()));
+        return report(rt, "standard input", play_all(rt, rt.stdin()));
     };
     if words.next().is_some() {
         eprintln!(rt; "cluster: one script at a time: cluster [FILE], or cluster --help")?;
@@ -66,6 +68,14 @@ fn main(rt: HostRuntime) -> io::Result<()> {
     }
     match word.as_str() {
         "--help" | "-h" => rt.print(USAGE),
-        path => report(&rt, path, play_file(&rt, path)),
+        path => report(rt, path, play_file(rt, path)),
+    }
+}
+
+// What went wrong was said where it happened.
+fn main(rt: HostRuntime) -> ExitCode {
+    match run(&rt) {
+        Ok(()) => ExitCode::SUCCESS,
+        Err(_) => ExitCode::FAILURE,
     }
 }
