@@ -6,7 +6,7 @@ pub returns-then-clock-i-ge-COUNT_BOUND : goal.returns-then-clock-i-ge-COUNT_BOU
 returns-then-clock-i-ge-COUNT_BOUND c = small_stops _ c.loop-i.i (omega arith) c.if-clock-i-ge-COUNT_BOUND.true c.loop-i.invariant
 
 pub loop-i-preserved : goal.loop-i-preserved
-loop-i-preserved c = small_goes _ c.loop-i.i (omega arith) c.if-clock-i-ge-COUNT_BOUND.false c.loop-i.invariant
+loop-i-preserved c = small_goes _ c.loop-i.i (omega arith) (omega arith) c.loop-i.invariant
 
 pub returns : goal.returns
 returns c = small_ends _ c.loop-i.i (omega arith) c.loop-i.invariant
