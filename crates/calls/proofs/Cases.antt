@@ -6,10 +6,10 @@ use Rattle.model.specs.Put.{Put, Body, text, good_body, value_of}
 use Rattle.model.specs.Program.{all_below, byte_bound, readable, readable_body, word_bound}
 use Rattle.model.specs.Replica.{Event, put, get, came, has, tell, garbled, legible, in_range}
 use Rattle.puts.specs.Values.{Bytes, code_put, code_text}
-use Rattle.puts.specs.declared.Put.{Put as CodePut}
+use Rattle.puts.specs.Values.{Put as CodePut}
 use Rattle.puts.specs.declared.Text.{Text}
 use Rattle.ranges.specs.Checked.{code_event}
-use Rattle.ranges.specs.declared.Checked.TheVariants.{Put as Put', Get, Came, Tell}
+use Rattle.puts.specs.declared.event.Event.TheVariants.{Put as Put', Get, Came, Tell}
 
 never : {A : Type 0} → ◌≡◌ {A = ℕ} 0 1 → A
 never z = absurd (omega arith)

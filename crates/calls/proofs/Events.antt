@@ -8,7 +8,7 @@ use Rattle.model.specs.Delivery.{nothing_new, ready}
 use Rattle.model.specs.Replica.{Replica, Event, put, get, came, has, tell, legible, in_range, possible, log_room, queue_room, refusal, place, moved, moves, after}
 use Rattle.puts.specs.Values.{clock_size, code_clock, code_put, put_of}
 use Rattle.puts.specs.Words.{Slot, code_slot}
-use Rattle.puts.specs.declared.Put.{Put as CodePut}
+use Rattle.puts.specs.Values.{Put as CodePut}
 use Rattle.puts.specs.declared.Clock.{Clock as CodeClock}
 use Rattle.puts.proofs.Padded.{had_code}
 use Rattle.memory.specs.Valid.{Sound, SoundSlot, Valid}

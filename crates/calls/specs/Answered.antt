@@ -8,7 +8,7 @@ use Rattle.model.specs.Replica.{Replica, Event, put, get, came, has, tell, garbl
 use Rattle.model.specs.Program.{readable}
 use Rattle.puts.specs.Values.{code_clock, code_put, narrow, put_of}
 use Rattle.puts.specs.Words.{code_slot}
-use Rattle.puts.specs.declared.Put.{Put}
+use Rattle.puts.specs.Values.{Put}
 use Rattle.memory.specs.Valid.{Valid}
 use Rattle.calls.specs.declared.Answer.{Answer}
 use Rattle.calls.specs.declared.Answer.TheVariants.{Refused, Made, Came, Reply, Nothing, Value, Clock}

@@ -6,7 +6,7 @@ use Rattle.model.specs.Limits.{Limits}
 use Rattle.model.specs.Delivery.{Delivery, ready, is_in}
 use Rattle.model.specs.Replica.{Replica}
 use Rattle.puts.specs.declared.Clock.{Clock as CodeClock}
-use Rattle.puts.specs.declared.Put.{Put as CodePut}
+use Rattle.puts.specs.Values.{Put as CodePut}
 use Rattle.puts.specs.declared.words.Head.{Head}
 use Rattle.puts.specs.Values.{clock_size, pad, put_of, code_clock, code_put, Fit}
 use Rattle.puts.specs.Words.{Slot, FitSlot, code_slot, code_head}

@@ -11,7 +11,7 @@ use Rattle.model.specs.Store.{Store, stand, stored, stored_all, shown}
 use Rattle.model.specs.Replica.{Replica, put, log_room, moved}
 use Rattle.model.proofs.Lists.{set_split}
 use Rattle.model.proofs.Clocks.{tick_same, tick_other}
-use Rattle.puts.specs.declared.Put.{Put as CodePut}
+use Rattle.puts.specs.Values.{Put as CodePut}
 use Rattle.puts.specs.Values.{Small, Bytes, code_put, put_of}
 use Rattle.puts.specs.Words.{Slot, slot_words, code_slot}
 use Rattle.puts.proofs.Padded.{small_pad, later_code}

@@ -85,14 +85,14 @@ pub fn ready(mem: &[u64], p: &Put) -> bool
 }
 
 // The put that this replica makes now.
-pub fn stamp(mem: &[u64], at: Place, key: u64, text: Text) -> Put
-    ensures { (l : Limits) (r : Replica) (v : List ℕ) → Fitted l r mem.now → Laid l r.delivery.me at → text ≡ code_text v → result ≡ code_put (stamped (text_at key v) r.delivery) }
+pub fn stamp(mem: &[u64], at: Place, key: u64, value: Text) -> Put
+    ensures { (l : Limits) (r : Replica) (v : List ℕ) → Fitted l r mem.now → Laid l r.delivery.me at → value ≡ code_text v → result ≡ code_put (stamped (text_at key v) r.delivery) }
 {
     Put {
         from: at.me as u64,
         seen: clock_of(mem),
         key,
-        text,
+        value,
     }
 }
 
@@ -206,11 +206,11 @@ pub fn take_own(mem: &mut [u64], at: Place, p: &Put)
 }
 
 // Makes a put of these bytes at a key, and takes it.
-pub fn make_put(mem: &mut [u64], at: Place, key: u64, text: Text) -> Put
+pub fn make_put(mem: &mut [u64], at: Place, key: u64, value: Text) -> Put
     requires { Ranged at }
-    ensures { (l : Limits) (r : Replica) (v : List ℕ) → Holds l r mem.old → Laid l r.delivery.me at → text ≡ code_text v → Bytes v → good_body l (text_at key v) ≡ true → log_room l r.delivery (put_of (text_at key v)) ≡ true → (result ≡ code_put (stamped (text_at key v) r.delivery)) × Holds l (moved (take_one (stamped (text_at key v) r.delivery) (begin r.delivery)) r.store) mem.new }
+    ensures { (l : Limits) (r : Replica) (v : List ℕ) → Holds l r mem.old → Laid l r.delivery.me at → value ≡ code_text v → Bytes v → good_body l (text_at key v) ≡ true → log_room l r.delivery (put_of (text_at key v)) ≡ true → (result ≡ code_put (stamped (text_at key v) r.delivery)) × Holds l (moved (take_one (stamped (text_at key v) r.delivery) (begin r.delivery)) r.store) mem.new }
 {
-    let p = stamp(mem, at, key, text);
+    let p = stamp(mem, at, key, value);
     take_own(mem, at, &p);
     p
 }

@@ -8,7 +8,7 @@ use Rattle.std.proofs.lemmas.Slice.{take-put_mid}
 use Rattle.std.proofs.ByRecursion.{All-append, All-from_get_or}
 use Rattle.model.specs.Limits.{value_most}
 use Rattle.model.specs.Put as model
-use Rattle.puts.specs.declared.Put.{Put}
+use Rattle.puts.specs.Values.{Put}
 use Rattle.puts.specs.Values.{clock_size, pad, Small, Bytes, code_put, Fit}
 use Rattle.puts.specs.Words.{slot_size, packed, unpacked, put_words, put_in, head_in, if_put, Slot, slot_words, code_slot, code_head, FitSlot}
 use Rattle.puts.proofs.Blocks.{drop_after}
@@ -47,11 +47,11 @@ parts_laid s a m b z f ls la lm lb lz =
     ∙ ap (λ x. (((x ++ a) ++ m) ++ b) ++ z) (front2 s 1 f (omega arith))
     ∙ simp append_assoc
 
-pub put_laid : (s a m b z : List ℕ) (p : Put) → length s ≡ 32 → length p.seen.counts ≡ 16 → a ≡ p.seen.counts → m ≡ 0 ∷ 0 ∷ p.key ∷ p.text.len ∷ [] → b ≡ packed p.text.bytes → z ≡ 0 ∷ 0 ∷ [] →
+pub put_laid : (s a m b z : List ℕ) (p : Put) → length s ≡ 32 → length p.seen.counts ≡ 16 → a ≡ p.seen.counts → m ≡ 0 ∷ 0 ∷ p.key ∷ p.value.len ∷ [] → b ≡ packed p.value.bytes → z ≡ 0 ∷ 0 ∷ [] →
     put_mid 30 2 (put_mid 22 8 (put_mid 18 4 (put_mid 2 16 (set (set s 0 1) 1 p.from) a) m) b) z ≡ put_words p
 unfolding put_words
 put_laid s a m b z p ls lc ea em eb ez =
-    parts_laid s a m b z p.from ls (ap length ea ∙ lc) (ap length em) (ap length eb ∙ packed_length p.text.bytes) (ap length ez)
+    parts_laid s a m b z p.from ls (ap length ea ∙ lc) (ap length em) (ap length eb ∙ packed_length p.value.bytes) (ap length ez)
     ∙ (λ i. (1 ∷ p.from ∷ []) ++ (ea i ++ (em i ++ (eb i ++ ez i))))
 
 -- a put is read back as it was written
@@ -71,7 +71,7 @@ words_back q f =
     let e₃ : get_or (cs ++ rest) 19 0 ≡ length v = get_or-append_right cs rest 16 19 0 lc (omega arith) in
     let e₄ : take 8 (drop 20 (cs ++ rest)) ≡ packed bs = ap (take 8) (drop_after cs rest 16 4 lc) ∙ take_at (packed bs) z 8 (packed_length bs) in
     let e₅ : unpacked (take 8 (drop 20 (cs ++ rest))) ≡ bs = ap unpacked e₄ ∙ unpacked_packed bs (pad_length value_most v) fits in
-    λ i. record { from = q.from; seen = record { counts = e₁ i }; key = e₂ i; text = record { len = e₃ i; bytes = e₅ i } }
+    λ i. record { from = q.from; seen = record { counts = e₁ i }; key = e₂ i; value = record { len = e₃ i; bytes = e₅ i } }
 
 pub slot_length : (s : Slot) → length (slot_words s) ≡ slot_size
 unfolding slot_words put_words

@@ -5,7 +5,7 @@ use Rattle.model.specs.Clock.{Clock, at}
 use Rattle.model.specs.Put as model
 use Rattle.puts.specs.declared.Clock.{Clock as CodeClock}
 use Rattle.puts.specs.declared.Text.{Text}
-use Rattle.puts.specs.declared.Put.{Put}
+use Rattle.puts.specs.declared.event.Put.{Put as PutOf}
 
 -- a clock of the code has so many counts
 abbrev pub clock_size : ℕ
@@ -19,13 +19,17 @@ Small c = (i : ℕ) → at c i < count_bound
 unfoldable pub pad : ℕ → List ℕ → List ℕ
 pad n xs = take n (xs ++ replicate n 0)
 
+-- a put of the code
+abbrev pub Put : Type 0
+Put = PutOf CodeClock Text
+
 -- FROM THE CODE TO THE MODEL: the bytes of a value
 abbrev pub value_in : Text → List ℕ
 value_in t = take t.len t.bytes
 
 -- a put of sixteen replicas
 abbrev pub put_of : Put → model.Put model.Body
-put_of p = record { from = p.from; seen = p.seen.counts; body = model.text p.key (value_in p.text) }
+put_of p = record { from = p.from; seen = p.seen.counts; body = model.text p.key (value_in p.value) }
 
 -- and of n
 abbrev pub narrow : {B : Type 0} → ℕ → model.Put B → model.Put B
@@ -41,7 +45,7 @@ code_text v = record { len = length v; bytes = pad value_most v }
 
 -- a put
 abbrev pub code_put : model.Put model.Body → Put
-code_put q = record { from = q.from; seen = code_clock q.seen; key = model.key_of q.body; text = code_text (model.value_of q.body) }
+code_put q = record { from = q.from; seen = code_clock q.seen; key = model.key_of q.body; value = code_text (model.value_of q.body) }
 
 -- a list of bytes
 abbrev pub Bytes : List ℕ → Type 0

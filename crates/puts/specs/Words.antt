@@ -2,9 +2,8 @@
 use Rattle.std.specs.Prelude.{ℕ, ◌+◌, ◌*◌, ◌/◌, ◌%◌, ◌^◌, cond, List, [], ◌∷◌, ◌++◌, map, take, drop, replicate, Some, None, Option, ◌==◌, slice_index}
 use Rattle.std.specs.List.{range_with_len, flat_map}
 use Rattle.model.specs.Put as model
-use Rattle.puts.specs.declared.Put.{Put}
 use Rattle.puts.specs.declared.words.Head.{Head}
-use Rattle.puts.specs.Values.{clock_size, code_put, Fit}
+use Rattle.puts.specs.Values.{Put, clock_size, code_put, Fit}
 
 -- THE LAYOUT OF A SLOT, here and nowhere else: how many words, and where each part begins; the form stands first
 abbrev pub slot_size : ℕ
@@ -64,7 +63,7 @@ unpacked ws = flat_map eight_of ws
 
 -- the words of a put
 unfoldable pub put_words : Put → List ℕ
-put_words p = (put_form ∷ p.from ∷ []) ++ (p.seen.counts ++ ((0 ∷ 0 ∷ p.key ∷ p.text.len ∷ []) ++ (packed p.text.bytes ++ (0 ∷ 0 ∷ []))))
+put_words p = (put_form ∷ p.from ∷ []) ++ (p.seen.counts ++ ((0 ∷ 0 ∷ p.key ∷ p.value.len ∷ []) ++ (packed p.value.bytes ++ (0 ∷ 0 ∷ []))))
 
 -- what the words of a slot hold: a put, read whole
 abbrev pub put_in : List ℕ → Put
@@ -73,7 +72,7 @@ put_in ws =
       from = slice_index ws from_place;
       seen = record { counts = take clock_size (drop seen_place ws) };
       key = slice_index ws key_place;
-      text = record { len = slice_index ws length_place; bytes = unpacked (take value_words (drop value_place ws)) };
+      value = record { len = slice_index ws length_place; bytes = unpacked (take value_words (drop value_place ws)) };
     }
 
 -- or its head alone

@@ -8,6 +8,7 @@ ghost use Rattle.model.specs.Put.{number as number_of, later as is_later, had as
 ghost use Rattle.model.specs.Delivery.{Delivery, ready as is_ready};
 ghost use Rattle.puts.specs.Values.{clock_size, Small, Bytes, put_of, code_text, value_in};
 
+pub mod event;
 pub mod words;
 
 // How many counts a clock has, and the most bytes of a value.
@@ -27,13 +28,8 @@ pub struct Text {
     pub bytes: [u8; VALUE_MOST],
 }
 
-#[derive(Clone, Copy)]
-pub struct Put {
-    pub from: u64,
-    pub seen: Clock,
-    pub key: u64,
-    pub text: Text,
-}
+// A put by value.
+pub type Put = event::Put<Clock, Text>;
 
 impl Clock {
     pub fn new() -> Clock
@@ -130,7 +126,7 @@ impl Text {
     }
 }
 
-impl Put {
+impl event::Put<Clock, Text> {
     // Its number among the puts of its replica, from 1.
     pub fn number(&self) -> u64
         ensures { number_of (put_of self.now) < 2 ^ 64 → result ≡ number_of (put_of self.now) }

@@ -82,8 +82,8 @@ pub fn write_put(part: &mut [u64], p: &Put)
     part[FORM] = PUT;
     part[FROM] = p.from;
     part[SEEN..SPARE].copy_from_slice(&p.seen.counts);
-    part[SPARE..VALUE].copy_from_slice(&[0, 0, p.key, p.text.len as u64]);
-    part[VALUE..END].copy_from_slice(&pack(&p.text.bytes));
+    part[SPARE..VALUE].copy_from_slice(&[0, 0, p.key, p.value.len as u64]);
+    part[VALUE..END].copy_from_slice(&pack(&p.value.bytes));
     part[END..SLOT].copy_from_slice(&[0; SLOT - END]);
 }
 
@@ -97,7 +97,7 @@ pub fn read_put(part: &[u64]) -> Option<Put>
     }
     let mut counts = [0; COUNTS];
     counts.copy_from_slice(&part[SEEN..SPARE]);
-    let text = Text {
+    let value = Text {
         len: part[LENGTH] as usize,
         bytes: unpack(&part[VALUE..END]),
     };
@@ -105,7 +105,7 @@ pub fn read_put(part: &[u64]) -> Option<Put>
         from: part[FROM],
         seen: Clock { counts },
         key: part[KEY],
-        text,
+        value,
     })
 }
 

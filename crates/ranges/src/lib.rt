@@ -4,30 +4,23 @@
 ghost use Rattle.memory.specs.Layout.{InRange, code_limits};
 ghost use Rattle.model.specs.Clock.{good_clock, small};
 ghost use Rattle.model.specs.Limits.{Limits as ModelLimits};
-ghost use Rattle.model.specs.Put.{good_body, key_of, value_of};
+ghost use Rattle.model.specs.Put.{good_body, text as text_of};
 ghost use Rattle.model.specs.Replica.{came, in_range as is_in_range};
 ghost use Rattle.puts.specs.Values.{code_clock, code_put, code_text};
 ghost use Rattle.ranges.specs.Checked.{Handed, code_event};
 ghost use Rattle.wire.specs.Reading.{clock_in};
-ghost use Rattle.wire.specs.Said.{body as body_of, event as event_in, put_of};
+ghost use Rattle.wire.specs.Said.{event as event_in, put_of};
 ghost use Rattle.std.specs.Prelude.{◌≡◌, nat_lt};
 
 use memory::Limits;
 use puts::{COUNTS, Clock, Put, Text};
-use wire::event::{Body, ClockBytes, Event, PutBytes};
+use wire::event::{ClockBytes, Event, PutBytes};
 
 // Each count, and the number of a put, is below this.
 const COUNT_BOUND: u64 = 4294967296;
 
 // An event whose numbers are in range.
-#[derive(Clone, Copy)]
-pub enum Checked {
-    Put { key: u64, text: Text },
-    Get { key: u64 },
-    Came { put: Put },
-    Has { replica: u64, clock: Clock },
-    Tell,
-}
+pub type Checked = puts::event::Event<Clock, Text>;
 
 // The number, if it is below the limit.
 fn below(n: u64, limit: usize) -> Option<u64>
@@ -63,27 +56,19 @@ fn clock_of(limits: Limits, bytes: ClockBytes<'_>) -> Option<Clock>
 }
 
 // A key and a value, if they are in range.
-fn body_in_range(limits: Limits, body: Body<'_>) -> Option<(u64, Text)>
-    ensures { (l : ModelLimits) → code_limits l ≡ limits → Handed (good_body l (body_of body.entry)) (key_of (body_of body.entry), code_text (value_of (body_of body.entry))) result }
+fn body_in_range(limits: Limits, key: u64, value: &[u8]) -> Option<(u64, Text)>
+    ensures { (l : ModelLimits) → code_limits l ≡ limits → Handed (good_body l (text_of key value.now)) (key, code_text value.now) result }
 {
-    match body {
-        Body::Text { key, value } => {
-            let Some(key) = below(key, limits.keys) else {
-                return None;
-            };
-            let Some(text) = Text::from_bytes(value) else {
-                return None;
-            };
-            Some((key, text))
-        }
-    }
+    let key = below(key, limits.keys)?;
+    let value = Text::from_bytes(value)?;
+    Some((key, value))
 }
 
 // A put that came, if all of it is in range.
 fn put_in_range(limits: Limits, put: PutBytes<'_>) -> Option<Put>
     ensures { (l : ModelLimits) → code_limits l ≡ limits → InRange limits → Handed (is_in_range l (came (put_of put.entry))) (code_put (put_of put.entry)) result }
 {
-    let Some((key, text)) = body_in_range(limits, put.body) else {
+    let Some((key, value)) = body_in_range(limits, put.key, put.value) else {
         return None;
     };
     let Some(from) = below(put.from, limits.replicas) else {
@@ -99,7 +84,7 @@ fn put_in_range(limits: Limits, put: PutBytes<'_>) -> Option<Put>
         from,
         seen,
         key,
-        text,
+        value,
     })
 }
 
@@ -108,11 +93,11 @@ pub fn in_range(limits: Limits, event: Event<'_>) -> Option<Checked>
     ensures { (l : ModelLimits) → code_limits l ≡ limits → InRange limits → Handed (is_in_range l (event_in event.entry)) (code_event (event_in event.entry)) result }
 {
     match event {
-        Event::Put { body } => {
-            let Some((key, text)) = body_in_range(limits, body) else {
+        Event::Put { key, value } => {
+            let Some((key, value)) = body_in_range(limits, key, value) else {
                 return None;
             };
-            Some(Checked::Put { key, text })
+            Some(Checked::Put { key, value })
         }
         Event::Get { key } => {
             let Some(key) = below(key, limits.keys) else {

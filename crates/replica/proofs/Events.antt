@@ -9,7 +9,7 @@ use Rattle.model.specs.Store.{shown, stored_all}
 use Rattle.model.specs.Replica.{Replica, Event, put, get, came, has, tell, Answer, refused, puts, value, clock_is, legible, in_range, possible, log_room, queue_room, place, moved, moves, says}
 use Rattle.puts.specs.Values.{clock_size, code_clock, code_put, put_of}
 use Rattle.puts.specs.Words.{Slot, code_slot}
-use Rattle.puts.specs.declared.Put.{Put as CodePut}
+use Rattle.puts.specs.Values.{Put as CodePut}
 use Rattle.puts.specs.declared.Clock.{Clock as CodeClock}
 use Rattle.puts.proofs.Padded.{had_code, take_pad}
 use Rattle.memory.specs.Valid.{Sound, SoundSlot, Valid}

@@ -11,7 +11,7 @@ use Rattle.model.proofs.Steps.{in_reply}
 use Rattle.puts.specs.Values.{Small, clock_size, code_clock, code_put}
 use Rattle.puts.specs.Words.{code_slot}
 use Rattle.puts.specs.declared.Clock.{Clock as CodeClock}
-use Rattle.puts.specs.declared.Put.{Put as CodePut}
+use Rattle.puts.specs.Values.{Put as CodePut}
 use Rattle.puts.proofs.Padded.{get_or_pad}
 use Rattle.memory.specs.State.{own_count}
 use Rattle.memory.specs.Valid.{AllSound, Sound, Valid}

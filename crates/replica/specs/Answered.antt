@@ -4,7 +4,7 @@ use Rattle.model.specs.Limits.{Limits}
 use Rattle.model.specs.Put as model
 use Rattle.model.specs.Replica.{Replica, Event, Answer as ModelAnswer, refused, puts, value, clock_is, answer, after}
 use Rattle.puts.specs.Values.{narrow, put_of}
-use Rattle.puts.specs.declared.Put.{Put}
+use Rattle.puts.specs.Values.{Put}
 use Rattle.memory.specs.Image.{encode}
 use Rattle.memory.specs.Valid.{Valid}
 use Rattle.logs.specs.State.{Holds}

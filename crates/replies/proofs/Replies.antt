@@ -10,7 +10,7 @@ use Rattle.model.specs.Replica.{Replica, Event, put, get, came, has, tell, garbl
 use Rattle.model.proofs.Replica.{answer_accepted}
 use Rattle.model.proofs.Steps.{in_reply}
 use Rattle.model.specs.Put.{Put, Body}
-use Rattle.puts.specs.declared.Put.{Put as CodePut}
+use Rattle.puts.specs.Values.{Put as CodePut}
 use Rattle.puts.specs.Values.{code_clock, code_put}
 use Rattle.puts.specs.declared.Clock.{Clock as CodeClock}
 use Rattle.puts.specs.Words.{code_slot}

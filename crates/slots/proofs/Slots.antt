@@ -4,7 +4,7 @@ use borrow.Rule.Slice.PartMut.{put_mid}
 use Rattle.std.specs.List.{flat_map}
 use Rattle.std.proofs.lemmas.List.{length-append}
 use Rattle.std.proofs.lemmas.Bool.{cond-true, cond-false, le-leb, lt-leb}
-use Rattle.puts.specs.declared.Put.{Put}
+use Rattle.puts.specs.Values.{Put}
 use Rattle.puts.specs.declared.words.Head.{Head}
 use Rattle.puts.specs.Values.{pad}
 use Rattle.puts.specs.Words.{slot_size, put_in, head_in, if_put, Slot, slot_words, code_slot, code_head, FitSlot}

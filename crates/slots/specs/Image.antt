@@ -1,7 +1,7 @@
 -- Lent memory: a header of rows, then slots. What a read gives and what a write leaves, in any memory. Definitions only.
 use Rattle.std.specs.Prelude.{ℕ, ◌+◌, ◌*◌, Bool, cond, ◌&&◌, List, ◌++◌, length, take, drop, replicate, None, Option, nat_le, nat_lt, slice_index, slice_set}
 use Rattle.std.specs.List.{flat_map}
-use Rattle.puts.specs.declared.Put.{Put}
+use Rattle.puts.specs.Values.{Put}
 use Rattle.puts.specs.declared.words.Head.{Head}
 use Rattle.puts.specs.Values.{pad}
 use Rattle.puts.specs.Words.{slot_size, put_in, head_in, if_put, Slot, slot_words}

@@ -4,29 +4,37 @@ use Rattle.model.specs.Clock as clock
 use Rattle.model.specs.Put as put
 use Rattle.model.specs.Replica as replica
 use Rattle.wire.specs.Reading.{Part, whole, ceases, clock_in}
-use Rattle.wire.specs.declared.event.Body.{Body}
-use Rattle.wire.specs.declared.event.Body.TheVariants.{Text}
-use Rattle.wire.specs.declared.event.PutBytes.{PutBytes}
-use Rattle.wire.specs.declared.event.Refusal.{Refusal}
-use Rattle.wire.specs.declared.event.Event.{Event}
+use denote.Ref.{Bor}
+use Rattle.puts.specs.declared.event.Put.{Put as PutOf}
+use Rattle.puts.specs.declared.event.Event.{Event as EventOf}
+use Rattle.puts.specs.declared.event.Event.TheVariants.{Put, Get, Came, Has, Tell}
+use Rattle.wire.specs.declared.event.ClockBytes.{ClockBytes}
+use Rattle.puts.specs.declared.event.Refusal.{Refusal}
+use Rattle.puts.specs.declared.event.Answer.{Answer as AnswerOf}
+use Rattle.puts.specs.declared.event.Answer.TheVariants.{Refused, Puts, Value, Clock}
+use Rattle.wire.specs.declared.answer.PutsBytes.{PutsBytes}
 use Rattle.wire.specs.Answers as answers
 use Rattle.wire.specs.declared.answer.Next.{Next}
 use Rattle.wire.specs.declared.answer.Next.TheVariants.{End, More}
-use Rattle.wire.specs.declared.answer.Answer.{Answer}
-use Rattle.wire.specs.declared.answer.Answer.TheVariants.{Refused, Puts, Value, Clock}
-use Rattle.wire.specs.declared.event.Event.TheVariants.{Put, Get, Came, Has, Tell}
+
+-- a put and an event whose clocks and values are parts of bytes
+abbrev pub PutBytes : Type 0
+PutBytes = PutOf ClockBytes (Bor (List ℕ))
+
+abbrev pub Event : Type 0
+Event = EventOf ClockBytes (Bor (List ℕ))
 
 -- what a put carries
-abbrev pub body : Body → put.Body
-body (Text k v) = put.text k v.now
+abbrev pub body : ℕ × Bor (List ℕ) → put.Body
+body b = put.text b.0 b.1.now
 
 -- a put with its parts
 abbrev pub put_of : PutBytes → put.Put put.Body
-put_of p = record { from = p.from; seen = clock_in p.seen.bytes.now; body = body p.body }
+put_of p = record { from = p.from; seen = clock_in p.seen.bytes.now; body = put.text p.key p.value.now }
 
 -- each event with its parts
 abbrev pub event : Event → replica.Event
-event (Put b) = replica.put (body b)
+event (Put k v) = replica.put (put.text k v.now)
 event (Get k) = replica.get k
 event (Came p) = replica.came (put_of p)
 event (Has j c) = replica.has j (clock_in c.bytes.now)
@@ -61,6 +69,10 @@ next None = None
 abbrev pub none_or_one : Option PutBytes → List (put.Put put.Body)
 none_or_one (Some p) = put_of p ∷ []
 none_or_one None = []
+
+-- an answer whose parts are parts of bytes
+abbrev pub Answer : Type 0
+Answer = AnswerOf ClockBytes (Bor (List ℕ)) PutsBytes
 
 -- each answer with its values; puts are walked to their end
 abbrev pub answer : Option Answer → Option replica.Answer

@@ -1,5 +1,6 @@
 // What a replica answers, as a client reads it. Puts and clocks are parts of the bytes that it was read from.
-use crate::event::{ClockBytes, PutBytes, Refusal};
+use crate::event::{ClockBytes, PutBytes};
+use puts::event;
 
 // Puts one after the other, up to the end of the bytes.
 #[derive(Clone, Copy)]
@@ -17,10 +18,4 @@ pub enum Next<'a> {
     },
 }
 
-#[derive(Clone, Copy)]
-pub enum Answer<'a> {
-    Refused { refusal: Refusal },
-    Puts { puts: PutsBytes<'a> },
-    Value { put: Option<PutBytes<'a>> },
-    Clock { clock: ClockBytes<'a> },
-}
+pub type Answer<'a> = event::Answer<ClockBytes<'a>, &'a [u8], PutsBytes<'a>>;

@@ -1,4 +1,5 @@
-// What comes to a replica. Clocks, values and puts are parts of the bytes that it was read from.
+// What comes to a replica, as its bytes have it: clocks and values are parts of the bytes that it was read from.
+use puts::event;
 
 // A clock: the bytes begin with it.
 #[derive(Clone, Copy)]
@@ -6,35 +7,11 @@ pub struct ClockBytes<'a> {
     pub bytes: &'a [u8],
 }
 
-// What a put carries.
-#[derive(Clone, Copy)]
-pub enum Body<'a> {
-    Text { key: u64, value: &'a [u8] },
-}
+pub type PutBytes<'a> = event::Put<ClockBytes<'a>, &'a [u8]>;
 
-// A put, read from bytes.
-#[derive(Clone, Copy)]
-pub struct PutBytes<'a> {
-    pub from: u64,
-    pub seen: ClockBytes<'a>,
-    pub body: Body<'a>,
-}
+pub type Event<'a> = event::Event<ClockBytes<'a>, &'a [u8]>;
 
-#[derive(Clone, Copy)]
-pub enum Event<'a> {
-    Put { body: Body<'a> },
-    Get { key: u64 },
-    Came { put: PutBytes<'a> },
-    Has { replica: u64, clock: ClockBytes<'a> },
-    Tell,
-}
-
-// Why an event is refused, and at what place of its bytes.
-#[derive(Clone, Copy)]
-pub struct Refusal {
-    pub number: u64,
-    pub place: u64,
-}
+pub use puts::event::Refusal;
 
 // Bytes that are no event.
 pub const NO_EVENT: u64 = 1;

@@ -3,7 +3,7 @@ ghost use Rattle.std.specs.Prelude.{◌≡◌, ◌≤◌, length, MatchResult};
 ghost use Rattle.wire.specs.Reading.{clock_size, read_body as body_read, read_put as put_read, span as span_of};
 ghost use Rattle.wire.specs.Said.{Within, body as body_of, part, put_of};
 
-use crate::event::{Body, ClockBytes, PutBytes};
+use crate::event::{ClockBytes, PutBytes};
 use crate::number::{number, rest};
 
 // How many bytes the counts of a clock take, a 1 before each.
@@ -34,8 +34,8 @@ pub fn read_clock(bytes: &[u8]) -> Result<usize, usize>
     }
 }
 
-// The body that the bytes are.
-pub fn read_body(bytes: &[u8]) -> Result<Body<'_>, usize>
+// The key and the value that the bytes are.
+pub fn read_body(bytes: &[u8]) -> Result<(u64, &[u8]), usize>
     ensures is { part body_of result ≡ body_read bytes.now }
     ensures within { Within result bytes.now }
 {
@@ -48,10 +48,7 @@ pub fn read_body(bytes: &[u8]) -> Result<Body<'_>, usize>
     let Some(key) = number(rest(bytes, 1)) else {
         return Err(bytes.len());
     };
-    Ok(Body::Text {
-        key,
-        value: rest(bytes, 9),
-    })
+    Ok((key, rest(bytes, 9)))
 }
 
 // The put that the bytes are.
@@ -67,7 +64,12 @@ pub fn read_put(bytes: &[u8]) -> Result<PutBytes<'_>, usize>
     };
     match read_clock(seen.bytes) {
         Ok(size) => match read_body(rest(bytes, 8 + size)) {
-            Ok(body) => Ok(PutBytes { from, seen, body }),
+            Ok((key, value)) => Ok(PutBytes {
+                from,
+                seen,
+                key,
+                value,
+            }),
             Err(place) => Err(8 + size + place),
         },
         Err(place) => Err(8 + place),

@@ -14,7 +14,7 @@ fn put_event(bytes: &[u8]) -> Result<Event<'_>, usize>
     ensures within { Within result bytes.now }
 {
     match read_body(bytes) {
-        Ok(body) => Ok(Event::Put { body }),
+        Ok((key, value)) => Ok(Event::Put { key, value }),
         Err(place) => Err(place),
     }
 }

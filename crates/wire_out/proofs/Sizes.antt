@@ -4,7 +4,7 @@ use Rattle.std.specs.List.{flat_map}
 use Rattle.std.proofs.lemmas.List.{append_assoc, take_more, flat_map_more, length_push}
 use Rattle.model.specs.Put as put
 use Rattle.wire.specs.Bytes.{write_puts, write_item}
-use Rattle.wire_out.specs.declared.answer.Put.{Put}
+use Rattle.wire_out.specs.Said.{Put}
 use Rattle.wire_out.specs.Said.{put_of, item}
 use Rattle.wire_out.specs.Written.{capped}
 

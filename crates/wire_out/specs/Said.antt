@@ -3,14 +3,21 @@ use Rattle.std.specs.Prelude.{ℕ, List, [], ◌∷◌, map, Some, None, Option}
 use Rattle.model.specs.Put as put
 use Rattle.model.specs.Replica as replica
 use Rattle.wire.specs.Bytes.{write_item}
-use Rattle.wire.specs.Said.{body}
-use Rattle.wire_out.specs.declared.answer.Put.{Put}
-use Rattle.wire_out.specs.declared.answer.Answer.{Answer}
-use Rattle.wire_out.specs.declared.answer.Answer.TheVariants.{Refused, Puts, Value, Clock}
+use denote.Ref.{Bor}
+use Rattle.puts.specs.declared.event.Put.{Put as PutOf}
+use Rattle.puts.specs.declared.event.Answer.{Answer as AnswerOf}
+use Rattle.puts.specs.declared.event.Answer.TheVariants.{Refused, Puts, Value, Clock}
+
+-- a put and an answer over lent counts and values
+abbrev pub Put : Type 0
+Put = PutOf (Bor (List ℕ)) (Bor (List ℕ))
+
+abbrev pub Answer : Type 0
+Answer = AnswerOf (Bor (List ℕ)) (Bor (List ℕ)) (Bor (List Put))
 
 -- a put with its parts
 abbrev pub put_of : Put → put.Put put.Body
-put_of p = record { from = p.from; seen = p.seen.now; body = body p.body }
+put_of p = record { from = p.from; seen = p.seen.now; body = put.text p.key p.value.now }
 
 -- what stands at a key
 abbrev pub none_or_one : Option Put → List (put.Put put.Body)

@@ -1,23 +1,22 @@
 // Events, each written into a lent slice: none if there is no room, and then it is as before; else how many bytes.
 ghost use Rattle.model.specs.Replica.{came as came_of, get as get_of, has as has_of, put as put_of, tell as tell_of};
 ghost use Rattle.wire.specs.Bytes.{write_event};
-ghost use Rattle.wire.specs.Said.{body as body_of};
+ghost use Rattle.model.specs.Put.{text};
 ghost use Rattle.wire_out.specs.Said.{put_of as put_meant};
 ghost use Rattle.wire_out.specs.Written.{Written};
 
 use crate::answer::Put;
 use crate::lengths::{body_len, clock_len, put_len};
-use crate::part::{put_body, put_bytes, put_clock, put_number, put_put};
-use wire::event::Body;
+use crate::part::{put_bytes, put_clock, put_number, put_put, put_text};
 
-pub fn write_put(out: &mut [u8], body: Body<'_>) -> Option<usize>
-    ensures { Written result out.old out.new (write_event (put_of (body_of body.entry))) }
+pub fn write_put(out: &mut [u8], key: u64, value: &[u8]) -> Option<usize>
+    ensures { Written result out.old out.new (write_event (put_of (text key value.now))) }
 {
-    if out.len() <= body_len(body) {
+    if out.len() <= body_len(value) {
         return None;
     }
     let tag = put_bytes(out, 0, &[0]);
-    Some(put_body(out, tag, body))
+    Some(put_text(out, tag, key, value))
 }
 
 pub fn write_get(out: &mut [u8], key: u64) -> Option<usize>

@@ -1,13 +1,12 @@
 // How many bytes parts take; the largest number, if they take more.
 ghost use Rattle.model.specs.Replica.{value};
 ghost use Rattle.wire.specs.Bytes.{write_body, write_clock, write_put, write_puts, write_answer, write_item};
-ghost use Rattle.wire.specs.Said.{body as body_of};
+ghost use Rattle.model.specs.Put.{text};
 ghost use Rattle.wire_out.specs.Said.{none_or_one, put_of};
 ghost use Rattle.wire_out.specs.Written.{capped};
-ghost use Rattle.std.specs.Prelude.{◌≡◌, [], map, length};
+ghost use Rattle.std.specs.Prelude.{◌≡◌, ◌+◌, [], map, length};
 
 use crate::answer::Put;
-use wire::event::Body;
 
 pub(crate) fn clock_len(counts: &[u64]) -> usize
     ensures { result ≡ capped (length (write_clock counts.now [])) }
@@ -15,10 +14,10 @@ pub(crate) fn clock_len(counts: &[u64]) -> usize
     counts.len().saturating_mul(9).saturating_add(1)
 }
 
-pub(crate) fn body_len(body: Body<'_>) -> usize
-    ensures { result ≡ capped (length (write_body (body_of body.entry))) }
+// A form, a key and a value.
+pub(crate) fn body_len(value: &[u8]) -> usize
+    ensures { result ≡ capped (9 + length value.now) }
 {
-    let Body::Text { key: _, value } = body;
     value.len().saturating_add(9)
 }
 
@@ -27,7 +26,7 @@ pub(crate) fn put_len(put: Put<'_>) -> usize
 {
     clock_len(put.seen)
         .saturating_add(8)
-        .saturating_add(body_len(put.body))
+        .saturating_add(body_len(put.value))
 }
 
 // A put among others, with its mark and its length.

@@ -2,12 +2,10 @@
 ghost use Rattle.std.specs.Prelude.{◌+◌, ◌*◌, ◌≤◌, [], length};
 ghost use Rattle.model.specs.Put.{text};
 ghost use Rattle.wire.specs.Bytes.{write_body, write_clock, write_counts, write_number, write_put};
-ghost use Rattle.wire.specs.Said.{body as body_of};
 ghost use Rattle.wire_out.specs.Said.{put_of};
 ghost use Rattle.wire_out.specs.Written.{Wrote};
 
 use crate::answer::Put;
-use wire::event::Body;
 
 pub fn put_bytes(out: &mut [u8], at: usize, part: &[u8]) -> usize
     requires { at + length part.now ≤ length out.old }
@@ -48,7 +46,7 @@ pub fn put_clock(out: &mut [u8], at: usize, counts: &[u64]) -> usize
 }
 
 // The form of a body, a key, and a value.
-fn put_text(out: &mut [u8], at: usize, key: u64, value: &[u8]) -> usize
+pub(crate) fn put_text(out: &mut [u8], at: usize, key: u64, value: &[u8]) -> usize
     requires { at + (9 + length value.now) ≤ length out.old }
     ensures { Wrote result at out.old out.new (write_body (text key value.now)) }
 {
@@ -57,20 +55,11 @@ fn put_text(out: &mut [u8], at: usize, key: u64, value: &[u8]) -> usize
     put_bytes(out, head, value)
 }
 
-pub(crate) fn put_body(out: &mut [u8], at: usize, body: Body<'_>) -> usize
-    requires { at + length (write_body (body_of body)) ≤ length out.old }
-    ensures { Wrote result at out.old out.new (write_body (body_of body.entry)) }
-{
-    match body {
-        Body::Text { key, value } => put_text(out, at, key, value),
-    }
-}
-
 pub(crate) fn put_put(out: &mut [u8], at: usize, put: Put<'_>) -> usize
     requires { at + length (write_put (put_of put)) ≤ length out.old }
     ensures { Wrote result at out.old out.new (write_put (put_of put.entry)) }
 {
     let from = put_number(out, at, put.from);
     let seen = put_clock(out, from, put.seen);
-    put_body(out, seen, put.body)
+    put_text(out, seen, put.key, put.value)
 }

@@ -1,7 +1,7 @@
 use Rattle.std.proofs.Common.{◌||◌, sym, ap, ◌∙◌, arith}
 use Rattle.model.specs.Put.{number}
 use Rattle.model.specs.Delivery.{is_in}
-use Rattle.puts.specs.declared.Put.{Put}
+use Rattle.puts.specs.Values.{Put}
 use Rattle.puts.specs.Values.{put_of}
 use Rattle.puts.proofs.Padded.{number_code}
 use Rattle.delivery.proofs.Takes.{from_code}

@@ -1,6 +1,6 @@
 use Rattle.std.proofs.Common.{◌+◌, ◌%◌, ap, ◌∙◌, arith}
 use Rattle.model.specs.Put.{number}
-use Rattle.puts.specs.declared.Put.{Put}
+use Rattle.puts.specs.Values.{Put}
 use Rattle.puts.specs.Values.{put_of}
 use Rattle.puts.specs.Words.{put_words, slot_words}
 use Rattle.puts.proofs.Padded.{number_code}

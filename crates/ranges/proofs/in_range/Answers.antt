@@ -2,7 +2,7 @@ use Rattle.std.proofs.Common.{ltb, sym, ap, ◌∙◌}
 use Rattle.model.specs.Replica.{in_range}
 use Rattle.wire.specs.Said.{event}
 use Rattle.ranges.specs.Checked.{code_event}
-use Rattle.ranges.specs.declared.Checked.TheVariants.{Put, Get, Came, Has}
+use Rattle.puts.specs.declared.event.Event.TheVariants.{Put, Get, Came, Has}
 use Rattle.ranges.proofs.Tests.{both_hold, first_fails, rest_fails}
 use Rattle.ranges.proofs.in_range.Goals as goal
 

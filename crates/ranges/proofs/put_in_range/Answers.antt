@@ -30,5 +30,5 @@ returns c = λ l e h.
     let long : length (clock_in c.args.put.seen.bytes.now) ≤ 16 = omega (arith, clock_long l (clock_in c.args.put.seen.bytes.now) seen.0, ap (λ x. x.replicas) e, h.replicas.1) in (
       all_hold l (put_of c.args.put) parts.0 (ap (λ x. ltb c.args.put.from x.replicas) e ∙ from.0) seen.0
           (number_in (clock_in c.args.put.seen.bytes.now) c.args.put.from c.count.result long (c.count.ensures ∙ (λ i. at (seen.1 i).counts (from.1 i))) (omega arith)),
-      λ i. record { from = from.1 i; seen = seen.1 i; key = (parts.1 i).0; text = (parts.1 i).1 },
+      λ i. record { from = from.1 i; seen = seen.1 i; key = (parts.1 i).0; value = (parts.1 i).1 },
     )

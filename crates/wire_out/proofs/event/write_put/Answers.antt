@@ -3,4 +3,4 @@ use Rattle.wire_out.proofs.Overs.{then_wrote, wrote_first}
 use Rattle.wire_out.proofs.event.write_put.Goals as goal
 
 pub returns : goal.returns
-returns c = wrote_first (then_wrote c.put_bytes-tag.ensures c.put_body.ensures (omega arith))
+returns c = wrote_first (then_wrote c.put_bytes-tag.ensures c.put_text.ensures (omega arith))
