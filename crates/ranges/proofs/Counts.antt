@@ -1,29 +1,32 @@
 -- Counts in range, one after the other; and a clock of sixteen counts for one of fewer.
-use Rattle.std.proofs.Common.{◌≡◌, ℕ, zero, suc, ◌+◌, ◌-◌, ◌<◌, ◌≤◌, Bool, true, false, ◌&&◌, eqb, ltb, leb, List, [], ◌∷◌, ◌++◌, length, get_or, drop, replicate, sym, refl, ap, ◌∙◌, subst, arith, lt-ltb, eq-eqb, le-leb}
+use Rattle.std.proofs.Common.{MatchBool, le-ltb, ◌≡◌, ℕ, zero, suc, ◌-◌, ◌<◌, ◌≤◌, Bool, true, false, ◌&&◌, eqb, ltb, leb, List, [], ◌∷◌, ◌++◌, length, get_or, replicate, sym, refl, ap, ◌∙◌, subst, arith, lt-ltb, eq-eqb, le-leb}
 use borrow.Author.Tests.{clash}
-use Rattle.std.proofs.lemmas.List.{drop_all, drop_more}
-use Rattle.std.proofs.lemmas.Bool.Decides.{nat_tests}
+use Rattle.std.specs.List.{AllWithin, HoldsAt}
 use Rattle.model.specs.Clock.{Clock, good_clock, small}
 use Rattle.model.specs.Limits.{Limits, count_bound}
 use Rattle.puts.specs.Values.{pad}
 use Rattle.puts.proofs.Padded.{pad_is}
 
-small_step : (xs : List ℕ) (i : ℕ) → i < length xs → small (drop i xs) ≡ (ltb (get_or xs i 0) count_bound && small (drop (i + 1) xs))
+all_small : (xs : List ℕ) → AllWithin (λ n. n < count_bound) xs 0 (length xs) → small xs ≡ true
 unfolding small
-small_step xs i h = rw (drop_more xs i 0 h)
+all_small [] h = refl
+all_small (x ∷ xs) h = rw (lt-ltb x count_bound (h 0 0 (omega arith) (omega arith))) (all_small xs (λ k d a b. h (suc k) d (omega arith) (omega arith)))
 
-pub small_stops : (xs : List ℕ) (i : ℕ) → i < length xs → count_bound ≤ get_or xs i 0 → small (drop i xs) ≡ small xs → false ≡ small xs
-small_stops xs i h t e = stops (get_or xs i 0) (small (drop (i + 1) xs)) t ∙ sym (small_step xs i h) ∙ e
+one_large : (xs : List ℕ) (k : ℕ) → k < length xs → count_bound ≤ get_or xs k 0 → small xs ≡ false
+unfolding small
+one_large [] k h g = absurd (omega arith)
+one_large (x ∷ xs) zero h g = rw (le-ltb x count_bound g) refl
+one_large (x ∷ xs) (suc k) h g = tail (ltb x count_bound) (one_large xs k (omega arith) g)
   where
-    stops : (n : ℕ) (b : Bool) → count_bound ≤ n → false ≡ (ltb n count_bound && b)
-    stops n b t = grind (arith, nat_tests)
+    tail : (a : Bool) → small xs ≡ false → (a && small xs) ≡ false
+    tail true e = e
+    tail false e = refl
 
-pub small_goes : (xs : List ℕ) (i : ℕ) → i < length xs → get_or xs i 0 < count_bound → small (drop i xs) ≡ small xs → small (drop (i + 1) xs) ≡ small xs
-small_goes xs i h t e = (rw (lt-ltb (get_or xs i 0) count_bound t) at (sym (small_step xs i h))) ∙ e
-
-pub small_ends : (xs : List ℕ) (i : ℕ) → length xs ≤ i → small (drop i xs) ≡ small xs → true ≡ small xs
-unfolding small
-small_ends xs i h e = rw (drop_all i xs h) at e
+-- a test of all, one after the other
+pub small_from_all : (xs : List ℕ) (r : Bool) →
+    MatchBool r (AllWithin (λ n. n < count_bound) xs 0 (length xs)) ((k : ℕ) × (k < length xs) × HoldsAt (λ n. count_bound ≤ n) xs k) → r ≡ small xs
+small_from_all xs true h = sym (all_small xs h)
+small_from_all xs false h = sym (one_large xs h.0 h.1 (h.2 0))
 
 -- zeros behind it change nothing
 small_zeros : (n : ℕ) → small (replicate n 0) ≡ true

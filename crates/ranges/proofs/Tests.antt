@@ -7,7 +7,14 @@ use Rattle.model.specs.Limits.{Limits, count_bound}
 use Rattle.model.specs.Put.{Put, Body, good_body, good_head, number}
 use Rattle.model.specs.Replica.{came, in_range}
 use Rattle.puts.specs.Values.{pad}
+use Rattle.ranges.specs.Checked.{Handed}
+use Rattle.std.specs.Bool.{then_some}
 use Rattle.puts.proofs.Padded.{get_or_pad}
+
+-- a value is handed on where the test holds
+pub handed : {A : Type 0} {b t : Bool} {x y : A} → b ≡ t → y ≡ x → Handed b x (then_some t y)
+handed {t = true} e f = (e, f)
+handed {t = false} e f = e
 
 pub first_fails : (a b : Bool) → a ≡ false → (a && b) ≡ false
 first_fails false b e = refl

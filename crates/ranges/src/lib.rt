@@ -26,33 +26,24 @@ pub type Checked = puts::event::Event<Clock, Text>;
 fn below(n: u64, limit: usize) -> Option<u64>
     ensures { Handed (nat_lt n limit) n result }
 {
-    if n < limit as u64 { Some(n) } else { None }
+    (n < limit as u64).then_some(n)
 }
 
 // Each count is in range.
 fn all_small(clock: &Clock) -> bool
     ensures { result ≡ small clock.now.counts }
 {
-    for i in 0..COUNTS {
-        if clock.counts[i] >= COUNT_BOUND {
-            return false;
-        }
-    }
-    true
+    clock.counts.iter().all(|&count| count < COUNT_BOUND)
 }
 
 // The clock, if it has a count for each replica, in range.
 fn clock_of(limits: Limits, bytes: ClockBytes<'_>) -> Option<Clock>
     ensures { (l : ModelLimits) → code_limits l ≡ limits → InRange limits → Handed (good_clock l (clock_in bytes.entry.bytes.now)) (code_clock (clock_in bytes.entry.bytes.now)) result }
 {
-    let Some(counts) = bytes.counts(limits.replicas) else {
-        return None;
+    let clock = Clock {
+        counts: bytes.counts(limits.replicas)?,
     };
-    let clock = Clock { counts };
-    if !all_small(&clock) {
-        return None;
-    }
-    Some(clock)
+    all_small(&clock).then_some(clock)
 }
 
 // A key and a value, if they are in range.
@@ -68,15 +59,9 @@ fn body_in_range(limits: Limits, key: u64, value: &[u8]) -> Option<(u64, Text)>
 fn put_in_range(limits: Limits, put: PutBytes<'_>) -> Option<Put>
     ensures { (l : ModelLimits) → code_limits l ≡ limits → InRange limits → Handed (is_in_range l (came (put_of put.entry))) (code_put (put_of put.entry)) result }
 {
-    let Some((key, value)) = body_in_range(limits, put.key, put.value) else {
-        return None;
-    };
-    let Some(from) = below(put.from, limits.replicas) else {
-        return None;
-    };
-    let Some(seen) = clock_of(limits, put.seen) else {
-        return None;
-    };
+    let (key, value) = body_in_range(limits, put.key, put.value)?;
+    let from = below(put.from, limits.replicas)?;
+    let seen = clock_of(limits, put.seen)?;
     if seen.count(from) >= COUNT_BOUND - 1 {
         return None;
     }
@@ -92,34 +77,21 @@ fn put_in_range(limits: Limits, put: PutBytes<'_>) -> Option<Put>
 pub fn in_range(limits: Limits, event: Event<'_>) -> Option<Checked>
     ensures { (l : ModelLimits) → code_limits l ≡ limits → InRange limits → Handed (is_in_range l (event_in event.entry)) (code_event (event_in event.entry)) result }
 {
-    match event {
+    Some(match event {
         Event::Put { key, value } => {
-            let Some((key, value)) = body_in_range(limits, key, value) else {
-                return None;
-            };
-            Some(Checked::Put { key, value })
+            let (key, value) = body_in_range(limits, key, value)?;
+            Checked::Put { key, value }
         }
-        Event::Get { key } => {
-            let Some(key) = below(key, limits.keys) else {
-                return None;
-            };
-            Some(Checked::Get { key })
-        }
-        Event::Came { put } => {
-            let Some(put) = put_in_range(limits, put) else {
-                return None;
-            };
-            Some(Checked::Came { put })
-        }
-        Event::Has { replica, clock } => {
-            let Some(replica) = below(replica, limits.replicas) else {
-                return None;
-            };
-            let Some(clock) = clock_of(limits, clock) else {
-                return None;
-            };
-            Some(Checked::Has { replica, clock })
-        }
-        Event::Tell => Some(Checked::Tell),
-    }
+        Event::Get { key } => Checked::Get {
+            key: below(key, limits.keys)?,
+        },
+        Event::Came { put } => Checked::Came {
+            put: put_in_range(limits, put)?,
+        },
+        Event::Has { replica, clock } => Checked::Has {
+            replica: below(replica, limits.replicas)?,
+            clock: clock_of(limits, clock)?,
+        },
+        Event::Tell => Checked::Tell,
+    })
 }

@@ -1,12 +1,12 @@
-use Rattle.std.proofs.Common.{arith}
-use Rattle.ranges.proofs.Counts.{small_ends, small_goes, small_stops}
+use Rattle.std.proofs.Common.{rules, ◌<◌, ◌≤◌}
+use borrow.Author.Tests.{tests}
+use Rattle.std.proofs.lemmas.Iterator.{cases_from_all, YieldsList-from_slice}
+use Rattle.model.specs.Limits.{count_bound}
+use Rattle.ranges.proofs.Counts.{small_from_all}
 use Rattle.ranges.proofs.all_small.Goals as goal
 
-pub returns-then-clock-i-ge-COUNT_BOUND : goal.returns-then-clock-i-ge-COUNT_BOUND
-returns-then-clock-i-ge-COUNT_BOUND c = small_stops _ c.loop-i.i (omega arith) c.if-clock-i-ge-COUNT_BOUND.true c.loop-i.invariant
-
-pub loop-i-preserved : goal.loop-i-preserved
-loop-i-preserved c = small_goes _ c.loop-i.i (omega arith) (omega arith) c.loop-i.invariant
-
 pub returns : goal.returns
-returns c = small_ends _ c.loop-i.i (omega arith) c.loop-i.invariant
+returns c =
+    small_from_all _ _
+    (cases_from_all _ _ _ (λ n. n < count_bound) (λ n. count_bound ≤ n) c.all.ensures.ran (YieldsList-from_slice c.args.clock.now.counts c.iter.ensures.rest)
+    (λ x q k. search (rules, tests)) (λ x q k. search (rules, tests)))

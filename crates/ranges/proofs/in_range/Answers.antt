@@ -6,53 +6,50 @@ use Rattle.puts.specs.declared.event.Event.TheVariants.{Put, Get, Came, Has}
 use Rattle.ranges.proofs.Tests.{both_hold, first_fails, rest_fails}
 use Rattle.ranges.proofs.in_range.Goals as goal
 
-pub returns-in_default : goal.returns-in_default
+pub returns-in_err-key-in-Put : goal.returns-in_err-key-in-Put
 unfolding in_range
-returns-in_default c = λ l e h. ap (λ x. in_range l (event x)) c.in-Put.is ∙ c.in_default.ensures l e
+returns-in_err-key-in-Put c = rw c.from_residual.ensures (λ l e h. ap (λ x. in_range l (event x)) c.in-Put.is ∙ c.in_err-key-in-Put.ensures l e)
 
-pub returns-in_default-below : goal.returns-in_default-below
+pub returns-in_err-below-in-Get : goal.returns-in_err-below-in-Get
 unfolding in_range
-returns-in_default-below c = λ l e h. ap (λ x. in_range l (event x)) c.in-Get.is ∙ ap (λ x. ltb c.in-Get.key x.keys) e ∙ c.in_default-below.ensures
+returns-in_err-below-in-Get c = rw c.from_residual-in_err-below-in-Get.ensures (λ l e h. ap (λ x. in_range l (event x)) c.in-Get.is ∙ ap (λ x. ltb c.in-Get.key x.keys) e ∙ c.in_err-below-in-Get.ensures)
 
-pub returns-in_default-put_in_range : goal.returns-in_default-put_in_range
+pub returns-in_err-put_in_range-in-Came : goal.returns-in_err-put_in_range-in-Came
 unfolding in_range
-returns-in_default-put_in_range c = λ l e h. ap (λ x. in_range l (event x)) c.in-Came.is ∙ c.in_default-put_in_range.ensures l e h
+returns-in_err-put_in_range-in-Came c = rw c.from_residual-in_err-put_in_range-in-Came.ensures (λ l e h. ap (λ x. in_range l (event x)) c.in-Came.is ∙ c.in_err-put_in_range-in-Came.ensures l e h)
 
-pub returns-in_default-below-2 : goal.returns-in_default-below-2
+pub returns-in_err-below-in-Has : goal.returns-in_err-below-in-Has
 unfolding in_range
-returns-in_default-below-2 c = λ l e h. ap (λ x. in_range l (event x)) c.in-Has.is ∙ first_fails _ _ (ap (λ x. ltb c.in-Has.replica x.replicas) e ∙ c.in_default-below-2.ensures)
+returns-in_err-below-in-Has c = rw c.from_residual-in_err-below-in-Has.ensures (λ l e h. ap (λ x. in_range l (event x)) c.in-Has.is ∙ first_fails _ _ (ap (λ x. ltb c.in-Has.replica x.replicas) e ∙ c.in_err-below-in-Has.ensures))
 
-pub returns-in_default-clock_of : goal.returns-in_default-clock_of
+pub returns-in_err-clock_of-in-Has : goal.returns-in_err-clock_of-in-Has
 unfolding in_range
-returns-in_default-clock_of c = λ l e h. ap (λ x. in_range l (event x)) c.in-Has.is ∙ rest_fails _ _ (c.in_default-clock_of.ensures l e h)
+returns-in_err-clock_of-in-Has c = rw c.from_residual-in_err-clock_of-in-Has.ensures (λ l e h. ap (λ x. in_range l (event x)) c.in-Has.is ∙ rest_fails _ _ (c.in_err-clock_of-in-Has.ensures l e h))
 
-pub returns-in-Some : goal.returns-in-Some
+pub returns-in_ok-key-in-Put : goal.returns-in_ok-key-in-Put
 unfolding in_range
-returns-in-Some c = λ l e h. (
-  ap (λ x. in_range l (event x)) c.in-Put.is ∙ (c.in-Some.ensures l e).0,
-  (λ i. Put ((c.in-Some.ensures l e).1 i).0 ((c.in-Some.ensures l e).1 i).1) ∙ sym (ap (λ x. code_event (event x)) c.in-Put.is),
-)
+returns-in_ok-key-in-Put c = λ l e h.
+    let p = c.in_ok-key-in-Put.ensures l e in
+    (ap (λ x. in_range l (event x)) c.in-Put.is ∙ p.0, (λ i. Put (p.1 i).0 (p.1 i).1) ∙ sym (ap (λ x. code_event (event x)) c.in-Put.is))
 
-pub returns-in-Some-below : goal.returns-in-Some-below
+pub returns-in_ok-below-in-Get : goal.returns-in_ok-below-in-Get
 unfolding in_range
-returns-in-Some-below c = λ l e h. (
-  ap (λ x. in_range l (event x)) c.in-Get.is ∙ ap (λ x. ltb c.in-Get.key x.keys) e ∙ c.in-Some-below.ensures.0,
-  ap Get c.in-Some-below.ensures.1 ∙ sym (ap (λ x. code_event (event x)) c.in-Get.is),
-)
+returns-in_ok-below-in-Get c = λ l e h.
+    let k = c.in_ok-below-in-Get.ensures in
+    (ap (λ x. in_range l (event x)) c.in-Get.is ∙ ap (λ x. ltb c.in-Get.key x.keys) e ∙ k.0, ap Get k.1 ∙ sym (ap (λ x. code_event (event x)) c.in-Get.is))
 
-pub returns-in-Some-put_in_range : goal.returns-in-Some-put_in_range
+pub returns-in_ok-put_in_range-in-Came : goal.returns-in_ok-put_in_range-in-Came
 unfolding in_range
-returns-in-Some-put_in_range c = λ l e h. (
-  ap (λ x. in_range l (event x)) c.in-Came.is ∙ (c.in-Some-put_in_range.ensures l e h).0,
-  ap Came (c.in-Some-put_in_range.ensures l e h).1 ∙ sym (ap (λ x. code_event (event x)) c.in-Came.is),
-)
+returns-in_ok-put_in_range-in-Came c = λ l e h.
+    let p = c.in_ok-put_in_range-in-Came.ensures l e h in
+    (ap (λ x. in_range l (event x)) c.in-Came.is ∙ p.0, ap Came p.1 ∙ sym (ap (λ x. code_event (event x)) c.in-Came.is))
 
-pub returns-in-Some-clock_of : goal.returns-in-Some-clock_of
+pub returns-in_ok-clock_of-in-Has : goal.returns-in_ok-clock_of-in-Has
 unfolding in_range
-returns-in-Some-clock_of c = λ l e h. (
-  ap (λ x. in_range l (event x)) c.in-Has.is ∙ both_hold _ _ (ap (λ x. ltb c.in-Has.replica x.replicas) e ∙ c.in-Some-below-2.ensures.0) (c.in-Some-clock_of.ensures l e h).0,
-  (λ i. Has (c.in-Some-below-2.ensures.1 i) ((c.in-Some-clock_of.ensures l e h).1 i)) ∙ sym (ap (λ x. code_event (event x)) c.in-Has.is),
-)
+returns-in_ok-clock_of-in-Has c = λ l e h.
+    let j = c.in_ok-below-in-Has.ensures in
+    let k = c.in_ok-clock_of-in-Has.ensures l e h in
+    (ap (λ x. in_range l (event x)) c.in-Has.is ∙ both_hold _ _ (ap (λ x. ltb c.in-Has.replica x.replicas) e ∙ j.0) k.0, (λ i. Has (j.1 i) (k.1 i)) ∙ sym (ap (λ x. code_event (event x)) c.in-Has.is))
 
 pub returns-in-Tell : goal.returns-in-Tell
 unfolding in_range
