@@ -1,16 +1,13 @@
 -- What an event is answered, by the checks that it passes.
-use Rattle.std.proofs.Common.{◌≡◌, ℕ, zero, suc, Bool, true, false, cond, ◌&&◌, ◌⊎◌, refl, ap, ◌∙◌, inl, inr, arith, eq-eqb, ne_eqb}
+use Rattle.std.proofs.Common.{◌≡◌, ◌≤◌, ℕ, zero, suc, Ok, Err, Bool, true, false, cond, ◌&&◌, ◌⊎◌, refl, ap, ◌∙◌, inl, inr, arith, eq-eqb, ne_eqb}
 use Rattle.model.specs.Limits.{Limits}
 use Rattle.model.specs.Put.{Put, Body}
-use Rattle.model.specs.Replica.{Replica, Event, legible, in_range, possible, log_room, queue_room, event_number, first_failing, place, refusal, after}
-use Rattle.model.proofs.Replica.{pass, refusal_changes_nothing}
+use Rattle.model.specs.Replica.{Replica, Event, legible, in_range, possible, log_room, queue_room, event_number, first_failing, place, refusal}
+use Rattle.model.proofs.Replica.{pass}
 use Rattle.puts.specs.Values.{code_put}
 use Rattle.puts.proofs.Padded.{put_back}
 use Rattle.memory.specs.Valid.{Sound}
-use Rattle.memory.specs.declared.Refusal.{Refusal}
-use Rattle.calls.specs.Answered.{AllSupported, code_answer, code_says, one_put}
-use Rattle.calls.specs.declared.Answer.{Answer as CodeAnswer}
-use Rattle.calls.specs.declared.Answer.TheVariants.{Refused}
+use Rattle.calls.specs.Answered.{AllSupported, Answer, code_answer, code_says, one_put, reason}
 
 -- an event whose bytes were read and whose numbers are in range
 pub record Right (l : Limits) (e : Event) : Type 0 where
@@ -38,6 +35,20 @@ fifth : (a b c d e : Bool) → a ≡ true → b ≡ true → c ≡ true → d �
 unfolding chain
 fifth a b c d e p q r s t = rw (p, q, r, s, t)
 
+-- there are five refusals
+few : (a b c d e : Bool) → chain a b c d e ≤ 5
+unfolding chain
+few true true true true true = omega arith
+few true true true true false = omega arith
+few true true true false e = omega arith
+few true true false d e = omega arith
+few true false c d e = omega arith
+few false b c d e = omega arith
+
+pub refusal_few : (l : Limits) (r : Replica) (e : Event) → refusal l r e ≤ 5
+unfolding first_failing chain
+refusal_few l r e = few (legible e) (l.supports (event_number e) && in_range l e) (possible r.delivery e) (log_room l r.delivery e) (queue_room l r.delivery e)
+
 module _ (l : Limits) (r : Replica) (e : Event) (right : Right l e) where
   -- no check fails
   pub accepts : possible r.delivery e ≡ true → log_room l r.delivery e ≡ true → queue_room l r.delivery e ≡ true → refusal l r e ≡ 0
@@ -57,22 +68,21 @@ module _ (l : Limits) (r : Replica) (e : Event) (right : Right l e) where
   refuses_5 p g q = fifth (legible e) (l.supports (event_number e) && in_range l e) (possible r.delivery e) (log_room l r.delivery e) (queue_room l r.delivery e) right.read right.valid p g q
 
 -- what the code answers then
-pub code_accepted : (l : Limits) (r : Replica) (e : Event) → refusal l r e ≡ 0 → code_answer l r e ≡ code_says r e
-code_accepted l r e z = ap (λ b. cond b (code_says r e) (Refused (record { number = refusal l r e; place = place e }))) (eq-eqb (refusal l r e) 0 z)
+pub code_accepted : (l : Limits) (r : Replica) (e : Event) → refusal l r e ≡ 0 → code_answer l r e ≡ Ok (code_says r e)
+code_accepted l r e z = ap (λ b. cond b (Ok (code_says r e)) (Err (reason (refusal l r e) (place e)))) (eq-eqb (refusal l r e) 0 z)
 
-pub code_refused : (l : Limits) (r : Replica) (e : Event) (n : ℕ) → refusal l r e ≡ suc n → code_answer l r e ≡ Refused (record { number = suc n; place = place e })
+pub code_refused : (l : Limits) (r : Replica) (e : Event) (n : ℕ) → refusal l r e ≡ suc n → code_answer l r e ≡ Err (reason (suc n) (place e))
 code_refused l r e n z =
-    ap (λ b. cond b (code_says r e) (Refused (record { number = refusal l r e; place = place e }))) (ne_eqb (refusal l r e) 0 (λ y. omega (arith, y, z)))
-    ∙ ap (λ k. Refused (record { number = k; place = place e })) z
+    ap (λ b. cond b (Ok (code_says r e)) (Err (reason (refusal l r e) (place e)))) (ne_eqb (refusal l r e) 0 (λ y. omega (arith, y, z)))
+    ∙ ap (λ k. Err (reason k (place e))) z
 
--- an answer of the code is one or the other
-pub code_cases : (l : Limits) (r : Replica) (e : Event) (a : CodeAnswer) → a ≡ code_answer l r e →
-    ((refusal l r e ≡ 0) × (a ≡ code_says r e)) ⊎ ((after l r e ≡ r) × ((f : Refusal) × (a ≡ Refused f)))
-code_cases l r e a s = go (refusal l r e) refl
+-- an answer of the code is that of an event that no check refuses
+pub was_accepted : (l : Limits) (r : Replica) (e : Event) (a : Answer) → Ok a ≡ code_answer l r e → (refusal l r e ≡ 0) × (a ≡ code_says r e)
+was_accepted l r e a s = go (refusal l r e) refl
   where
-    go : (n : ℕ) → refusal l r e ≡ n → ((refusal l r e ≡ 0) × (a ≡ code_says r e)) ⊎ ((after l r e ≡ r) × ((f : Refusal) × (a ≡ Refused f)))
-    go zero z = inl (z, s ∙ code_accepted l r e z)
-    go (suc n) z = inr (refusal_changes_nothing l r e (omega (arith, z)), (record { number = suc n; place = place e }, s ∙ code_refused l r e n z))
+    go : (n : ℕ) → refusal l r e ≡ n → (refusal l r e ≡ 0) × (a ≡ code_says r e)
+    go zero z = let t : Ok a ≡ Ok (code_says r e) = s ∙ code_accepted l r e z in (z, grind (arith, t))
+    go (suc n) z = let t : Ok a ≡ Err (reason (suc n) (place e)) = s ∙ code_refused l r e n z in absurd (grind (arith, t))
 
 -- refused by 2
 pub out_of_range_is_2 : (l : Limits) (r : Replica) (e : Event) → legible e ≡ true → (l.supports (event_number e) && in_range l e) ≡ false → refusal l r e ≡ 2

@@ -5,11 +5,13 @@ use Rattle.model.specs.Limits.{Limits}
 use Rattle.model.specs.Put.{Put, Body, text, good_body, value_of}
 use Rattle.model.specs.Program.{all_below, byte_bound, readable, readable_body, word_bound}
 use Rattle.model.specs.Replica.{Event, put, get, came, has, tell, garbled, legible, in_range}
-use Rattle.puts.specs.Values.{Bytes, code_put, code_text}
+use Rattle.puts.specs.Values.{Bytes, code_clock, code_put, code_text}
+use Rattle.puts.specs.declared.Clock.{Clock as CodeClock}
+use Rattle.model.specs.Clock.{Clock}
 use Rattle.puts.specs.Values.{Put as CodePut}
 use Rattle.puts.specs.declared.Text.{Text}
 use Rattle.ranges.specs.Checked.{code_event}
-use Rattle.puts.specs.declared.event.Event.TheVariants.{Put as Put', Get, Came, Tell}
+use Rattle.puts.specs.declared.event.Event.TheVariants.{Put as Put', Get, Came, Has, Tell}
 
 never : {A : Type 0} → ◌≡◌ {A = ℕ} 0 1 → A
 never z = absurd (omega arith)
@@ -38,6 +40,14 @@ module _ (X : Event → Type 0) where
   came_case p f (has j c) h = never (cc)
   came_case p f tell h = never (cc)
   came_case p f (garbled n) h = never (cc)
+
+  pub has_case : (j : ℕ) (k : CodeClock) → ((c : Clock) → k ≡ code_clock c → X (has j c)) → (e : Event) → Has j k ≡ code_event e → X e
+  has_case j k f (put (text i v)) h = never (cc)
+  has_case j k f (get i) h = never (cc)
+  has_case j k f (came q) h = never (cc)
+  has_case j k f (has i c) h = let s : j ≡ i = cc in let z : k ≡ code_clock c = cc in subst (λ n. X (has n c)) s (f c z)
+  has_case j k f tell h = never (cc)
+  has_case j k f (garbled n) h = never (cc)
 
   pub tell_case : X tell → (e : Event) → legible e ≡ true → Tell ≡ code_event e → X e
   unfolding legible

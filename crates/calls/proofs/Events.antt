@@ -1,5 +1,5 @@
 -- Each event, over what the code reads and does.
-use Rattle.std.proofs.Common.{◌≡◌, ℕ, suc, ◌<◌, ◌≤◌, Bool, true, false, not, ◌||◌, eqb, ltb, List, [], ◌∷◌, length, Some, None, Option, sym, refl, ap, ◌∙◌, subst, arith, le-ltb, lt-ltb, eq-eqb, ne_eqb}
+use Rattle.std.proofs.Common.{◌≡◌, Ok, Err, ℕ, suc, ◌<◌, ◌≤◌, Bool, true, false, not, ◌||◌, eqb, ltb, List, [], ◌∷◌, length, Some, None, Option, sym, refl, ap, ◌∙◌, subst, arith, le-ltb, lt-ltb, eq-eqb, ne_eqb}
 use borrow.Author.Tests.{clash}
 use Rattle.model.specs.Limits.{Limits, count_bound}
 use Rattle.model.specs.Clock.{Clock, at}
@@ -17,9 +17,8 @@ use Rattle.ranges.proofs.Tests.{both_hold, first_fails, rest_fails}
 use Rattle.logs.specs.State.{Holds, Laid}
 use Rattle.logs.specs.declared.Place.{Place}
 use Rattle.model.proofs.Replica.{after_accepted, after_keeps}
-use Rattle.calls.specs.Answered.{AllSupported, code_answer, code_says, one_put}
-use Rattle.calls.specs.declared.Answer.{Answer as CodeAnswer}
-use Rattle.calls.specs.declared.Answer.TheVariants.{Refused}
+use Rattle.calls.specs.Answered.{AllSupported, Answer, code_answer, code_says, one_put, reason}
+use Rattle.calls.specs.declared.Reason.{Reason}
 use Rattle.calls.proofs.Acts.{Right, accepts, back, code_accepted, code_refused, refuses_3, refuses_4, refuses_5, right_event}
 
 -- what was read of a slot
@@ -172,12 +171,12 @@ module _ (l : Limits) (r : Replica) (all : AllSupported l) where
   hears j c g p = accepts l r (has j c) (has_right j c g) p refl refl
 
 -- a refusal of the code
-pub refused_as : (l : Limits) (r : Replica) (e : Event) (n : ℕ) (a : CodeAnswer) → a ≡ Refused (record { number = suc n; place = 0 }) → place e ≡ 0 → refusal l r e ≡ suc n → a ≡ code_answer l r e
-refused_as l r e n a f p z = f ∙ sym (code_refused l r e n z ∙ ap (λ k. Refused (record { number = suc n; place = k })) p)
+pub refused_as : (l : Limits) (r : Replica) (e : Event) (n : ℕ) (w : Reason) → w ≡ reason (suc n) 0 → place e ≡ 0 → refusal l r e ≡ suc n → Err w ≡ code_answer l r e
+refused_as l r e n w f p z = ap Err f ∙ sym (code_refused l r e n z ∙ ap (λ k. Err (reason (suc n) k)) p)
 
 -- an accepted one
-pub accepted_as : (l : Limits) (r : Replica) (e : Event) (a : CodeAnswer) → a ≡ code_says r e → refusal l r e ≡ 0 → a ≡ code_answer l r e
-accepted_as l r e a f z = f ∙ sym (code_accepted l r e z)
+pub accepted_as : (l : Limits) (r : Replica) (e : Event) (a : Answer) → a ≡ code_says r e → refusal l r e ≡ 0 → Ok a ≡ code_answer l r e
+accepted_as l r e a f z = ap Ok f ∙ sym (code_accepted l r e z)
 
 -- and what it did
 pub done_as : (l : Limits) (r : Replica) (e : Event) (m : List ℕ) → refusal l r e ≡ 0 → Holds l (moved (moves l r.delivery e) r.store) m → Holds l (after l r e) m

@@ -1,222 +1,179 @@
-// A replica: what each event is answered, and what it does to the replica in its lent memory.
+// A replica: what each event is answered or why it is refused, and what it does to the replica in its lent memory.
 #![tactic(auto)]
 
 ghost use Rattle.logs.specs.State.{Holds, Laid, Ranged};
 ghost use Rattle.model.specs.Clock.{Clock as ModelClock};
 ghost use Rattle.model.specs.Limits.{Limits as ModelLimits};
-ghost use Rattle.memory.specs.State.{own_count};
 ghost use Rattle.memory.specs.Valid.{Sound};
 ghost use Rattle.model.specs.Program.{readable};
 ghost use Rattle.model.specs.Put.{Body, Put as ModelPut, good_body, text as text_of, value_of};
 ghost use Rattle.model.specs.Replica.{Event as ModelEvent, Replica, after, came as came_of, get as get_of, has as has_of, in_range, legible, log_room, possible, put as put_of, queue_room as has_queue_room, tell as tell_of};
 ghost use Rattle.puts.specs.Values.{Bytes, code_clock, code_put, code_text};
-ghost use Rattle.ranges.specs.Checked.{Handed, code_event};
-ghost use Rattle.calls.specs.Answered.{AllSupported, AnswerSaid, code_answer};
-ghost use Rattle.calls.specs.declared.Answer.TheVariants.{Refused};
-ghost use Rattle.std.specs.Prelude.{◌≡◌, ℕ, ◌<◌, true, List, length};
+ghost use Rattle.ranges.specs.Checked.{code_event};
+ghost use Rattle.calls.specs.Answered.{AllSupported, AnswerSaid, Passes, code_answer};
+ghost use Rattle.calls.specs.declared.Reason.TheVariants.{Impossible, LogFull, QueueFull};
+ghost use Rattle.std.specs.Prelude.{◌≡◌, ℕ, ◌<◌, true, List, Ok, length};
 
-use delivery::{deliver, nothing_new, ready, stamp, take_own};
+use delivery::{deliver, had, nothing_new, ready, stamp, take_own};
 use logs::{Place, clock_of, count_of, learn, logged, value_at, waiting};
-use memory::Refusal;
 use puts::{Clock, Put, Text};
 use ranges::Checked;
 
-// What a replica answers. A reply is the logged puts that a clock lacks; they are read as the answer is written, before anything changes.
-#[derive(Clone, Copy)]
-pub enum Answer {
-    Refused { refusal: Refusal },
+// Why an event is refused.
+#[derive(Clone, Copy, Debug, PartialEq, Eq)]
+pub enum Reason {
+    // From this place on the bytes are no event.
+    NoEvent { place: u64 },
+    // A number is out of range.
+    OutOfRange,
+    // It speaks of more puts of this replica than were made here.
+    Impossible,
+    // The log has no room for one more put.
+    LogFull,
+    // The put would have to wait, and the queue has no room for it.
+    QueueFull,
+}
+
+// What an event that is accepted is answered. The puts of a reply stand as `R`.
+#[derive(Clone, Copy, Drop)]
+pub enum Answer<R> {
     Made { put: Put },
     Came,
-    Reply { clock: Clock },
-    Nothing,
-    Value { put: Put },
+    Reply { to: R },
+    Value { put: Option<Put> },
     Clock { clock: Clock },
 }
 
 // Each count, and the number of a put, is below this.
 const COUNT_BOUND: u64 = 4294967296;
 
-fn refused(number: u64) -> Answer
-    ensures { result ≡ Refused (record { number = number; place = 0 }) }
+// One more own put has its room and its number.
+fn own_room(mem: &[u64], at: Place) -> Result<(), Reason>
+    ensures { (l : ModelLimits) (r : Replica) (b : Body) → Holds l r mem.now → Laid l r.delivery.me at → Passes (log_room l r.delivery (put_of b)) LogFull result }
 {
-    Answer::Refused {
-        refusal: Refusal { number, place: 0 },
+    if logged(mem, at) >= at.layout.log.count || count_of(mem, at.me) >= COUNT_BOUND - 1 {
+        return Err(Reason::LogFull);
     }
-}
-
-// How many puts were made here, if one more has its room and its number.
-fn own_room(mem: &[u64], at: Place) -> Option<u64>
-    ensures { (l : ModelLimits) (r : Replica) (b : Body) → Holds l r mem.now → Laid l r.delivery.me at → Handed (log_room l r.delivery (put_of b)) (own_count r) result }
-{
-    let own = count_of(mem, at.me);
-    if logged(mem, at) >= at.layout.log.count {
-        return None;
-    }
-    if own >= COUNT_BOUND - 1 {
-        return None;
-    }
-    Some(own)
+    Ok(())
 }
 
 // A put is made here.
-fn put_answer(mem: &[u64], at: Place, key: u64, text: Text) -> Answer
-    ensures { (l : ModelLimits) (r : Replica) (v : List ℕ) → Holds l r mem.now → Laid l r.delivery.me at → AllSupported l → text ≡ code_text v → good_body l (text_of key v) ≡ true → result ≡ code_answer l r (put_of (text_of key v)) }
+fn put_answer(mem: &[u64], at: Place, key: u64, value: Text) -> Result<Answer<Clock>, Reason>
+    ensures { (l : ModelLimits) (r : Replica) (v : List ℕ) → Holds l r mem.now → Laid l r.delivery.me at → AllSupported l → value ≡ code_text v → good_body l (text_of key v) ≡ true → result ≡ code_answer l r (put_of (text_of key v)) }
 {
-    let Some(_own) = own_room(mem, at) else {
-        return refused(4);
-    };
-    Answer::Made {
-        put: stamp(mem, at, key, text),
-    }
+    own_room(mem, at)?;
+    Ok(Answer::Made {
+        put: stamp(mem, at, key, value),
+    })
 }
 
-// The clock, if the put that came can be: one of this replica's own was made here.
-fn possible_put(mem: &[u64], at: Place, p: &Put) -> Option<Clock>
-    ensures { (l : ModelLimits) (r : Replica) (q : ModelPut Body) → Holds l r mem.now → Laid l r.delivery.me at → Sound l q → p.now ≡ code_put q → Handed (possible r.delivery (came_of q)) (code_clock r.delivery.clock) result }
+// The put that came can be: one of this replica's own was made here.
+fn possible_put(mem: &[u64], at: Place, p: &Put) -> Result<(), Reason>
+    ensures { (l : ModelLimits) (r : Replica) (q : ModelPut Body) → Holds l r mem.now → Laid l r.delivery.me at → Sound l q → p.now ≡ code_put q → Passes (possible r.delivery (came_of q)) Impossible result }
 {
-    let clock = clock_of(mem);
-    let mine = p.from == at.me as u64;
-    let had = p.had_by(&clock);
-    if mine && !had {
-        return None;
+    if p.from == at.me as u64 && !had(mem, p) {
+        return Err(Reason::Impossible);
     }
-    Some(clock)
+    Ok(())
 }
 
-// How many wait, if the put that came need not wait or finds room.
-fn queue_room(mem: &[u64], at: Place, p: &Put) -> Option<usize>
+// The put that came need not wait, or finds room.
+fn queue_room(mem: &[u64], at: Place, p: &Put) -> Result<(), Reason>
     requires { Ranged at }
-    ensures { (l : ModelLimits) (r : Replica) (q : ModelPut Body) → Holds l r mem.now → Laid l r.delivery.me at → Sound l q → p.now ≡ code_put q → Handed (has_queue_room l r.delivery (came_of q)) (length r.delivery.waiting) result }
+    ensures { (l : ModelLimits) (r : Replica) (q : ModelPut Body) → Holds l r mem.now → Laid l r.delivery.me at → Sound l q → p.now ≡ code_put q → Passes (has_queue_room l r.delivery (came_of q)) QueueFull result }
 {
-    let waiting = waiting(mem, at);
-    if waiting < at.layout.waiting.count {
-        return Some(waiting);
+    if waiting(mem, at) < at.layout.waiting.count || nothing_new(mem, at, p) || ready(mem, p) {
+        return Ok(());
     }
-    let again = nothing_new(mem, at, p);
-    let next = ready(mem, p);
-    if again || next {
-        return Some(waiting);
-    }
-    None
+    Err(Reason::QueueFull)
 }
 
 // A put came.
-fn came_answer(mem: &[u64], at: Place, p: &Put) -> Answer
+fn came_answer(mem: &[u64], at: Place, p: &Put) -> Result<Answer<Clock>, Reason>
     requires { Ranged at }
     ensures { (l : ModelLimits) (r : Replica) (q : ModelPut Body) → Holds l r mem.now → Laid l r.delivery.me at → AllSupported l → Sound l q → in_range l (came_of q) ≡ true → p.now ≡ code_put q → result ≡ code_answer l r (came_of q) }
 {
-    let Some(_clock) = possible_put(mem, at, p) else {
-        return refused(3);
-    };
-    let Some(_waiting) = queue_room(mem, at, p) else {
-        return refused(5);
-    };
-    Answer::Came
+    possible_put(mem, at, p)?;
+    queue_room(mem, at, p)?;
+    Ok(Answer::Came)
 }
 
-// How many puts were made here, if the clock has no more of them.
-fn possible_clock(mem: &[u64], at: Place, clock: &Clock) -> Option<u64>
-    ensures { (l : ModelLimits) (r : Replica) (j : ℕ) (c : ModelClock) → Holds l r mem.now → Laid l r.delivery.me at → length c ≡ l.replicas → clock.now ≡ code_clock c → Handed (possible r.delivery (has_of j c)) (own_count r) result }
+// A clock that was told has no more of this replica's puts than it made.
+fn possible_clock(mem: &[u64], at: Place, clock: &Clock) -> Result<(), Reason>
+    ensures { (l : ModelLimits) (r : Replica) (j : ℕ) (c : ModelClock) → Holds l r mem.now → Laid l r.delivery.me at → length c ≡ l.replicas → clock.now ≡ code_clock c → Passes (possible r.delivery (has_of j c)) Impossible result }
 {
-    let own = count_of(mem, at.me);
-    let told = clock.count(at.me as u64);
-    if told > own {
-        return None;
+    if clock.count(at.me as u64) > count_of(mem, at.me) {
+        return Err(Reason::Impossible);
     }
-    Some(own)
+    Ok(())
 }
 
-// A replica told its clock.
-fn has_answer(mem: &[u64], at: Place, clock: &Clock) -> Answer
+// A replica told its clock. The reply is read off it later.
+fn has_answer(mem: &[u64], at: Place, clock: &Clock) -> Result<Answer<Clock>, Reason>
     ensures { (l : ModelLimits) (r : Replica) (j : ℕ) (c : ModelClock) → Holds l r mem.now → Laid l r.delivery.me at → AllSupported l → in_range l (has_of j c) ≡ true → clock.now ≡ code_clock c → result ≡ code_answer l r (has_of j c) }
 {
-    let Some(_own) = possible_clock(mem, at, clock) else {
-        return refused(3);
-    };
-    Answer::Reply { clock: *clock }
+    possible_clock(mem, at, clock)?;
+    Ok(Answer::Reply { to: *clock })
 }
 
 // What stands at a key.
-fn get_answer(mem: &[u64], at: Place, key: u64) -> Answer
+fn get_answer(mem: &[u64], at: Place, key: u64) -> Answer<Clock>
     requires { Ranged at }
-    ensures { (l : ModelLimits) (r : Replica) → Holds l r mem.now → AllSupported l → key < l.keys → result ≡ code_answer l r (get_of key) }
+    ensures { (l : ModelLimits) (r : Replica) → Holds l r mem.now → AllSupported l → key < l.keys → Ok result ≡ code_answer l r (get_of key) }
 {
-    match value_at(mem, at, key) {
-        None => Answer::Nothing,
-        Some(put) => Answer::Value { put },
+    Answer::Value {
+        put: value_at(mem, at, key),
     }
 }
 
 // Its clock.
-fn tell_answer(mem: &[u64]) -> Answer
-    ensures { (l : ModelLimits) (r : Replica) → Holds l r mem.now → AllSupported l → result ≡ code_answer l r tell_of }
+fn tell_answer(mem: &[u64]) -> Answer<Clock>
+    ensures { (l : ModelLimits) (r : Replica) → Holds l r mem.now → AllSupported l → Ok result ≡ code_answer l r tell_of }
 {
     Answer::Clock {
         clock: clock_of(mem),
     }
 }
 
-// What an event whose numbers are in range is answered, or its refusal. Nothing changes.
-pub fn answer_to(mem: &[u64], at: Place, event: &Checked) -> Answer
+// What an event whose numbers are in range is answered, or why it is refused. Nothing changes.
+pub fn answer_to(mem: &[u64], at: Place, event: &Checked) -> Result<Answer<Clock>, Reason>
     requires { Ranged at }
     ensures { (l : ModelLimits) (r : Replica) (e : ModelEvent) → Holds l r mem.now → Laid l r.delivery.me at → AllSupported l → legible e ≡ true → readable e ≡ true → in_range l e ≡ true → event.now ≡ code_event e → result ≡ code_answer l r e }
 {
     match event {
-        Checked::Put { key, text } => put_answer(mem, at, *key, *text),
-        Checked::Get { key } => get_answer(mem, at, *key),
+        Checked::Put { key, value } => put_answer(mem, at, *key, *value),
+        Checked::Get { key } => Ok(get_answer(mem, at, *key)),
         Checked::Came { put } => came_answer(mem, at, put),
         Checked::Has { replica: _, clock } => has_answer(mem, at, clock),
-        Checked::Tell => tell_answer(mem),
+        Checked::Tell => Ok(tell_answer(mem)),
     }
 }
 
 // A put that was made is taken.
-fn apply_put(mem: &mut [u64], at: Place, answer: &Answer)
+fn apply_put(mem: &mut [u64], at: Place, answer: &Answer<Clock>)
     requires { Ranged at }
-    ensures { (l : ModelLimits) (r : Replica) (b : Body) → Holds l r mem.old → Laid l r.delivery.me at → Bytes (value_of b) → good_body l b ≡ true → answer.now ≡ code_answer l r (put_of b) → Holds l (after l r (put_of b)) mem.new }
+    ensures { (l : ModelLimits) (r : Replica) (b : Body) → Holds l r mem.old → Laid l r.delivery.me at → Bytes (value_of b) → good_body l b ≡ true → Ok answer.now ≡ code_answer l r (put_of b) → Holds l (after l r (put_of b)) mem.new }
 {
     if let Answer::Made { put } = answer {
         take_own(mem, at, put);
     }
 }
 
-// A put that came is taken, or waits.
-fn apply_came(mem: &mut [u64], at: Place, p: &Put, answer: &Answer)
+// What an event does that is accepted and answered so.
+pub fn apply(mem: &mut [u64], at: Place, event: &Checked, answer: &Answer<Clock>)
     requires { Ranged at }
-    ensures { (l : ModelLimits) (r : Replica) (q : ModelPut Body) → Holds l r mem.old → Laid l r.delivery.me at → Sound l q → p.now ≡ code_put q → answer.now ≡ code_answer l r (came_of q) → Holds l (after l r (came_of q)) mem.new }
-{
-    if let Answer::Came = answer {
-        deliver(mem, at, p);
-    }
-}
-
-// A clock that was told is known.
-fn apply_has(mem: &mut [u64], at: Place, replica: u64, answer: &Answer)
-    requires { Ranged at }
-    ensures { (l : ModelLimits) (r : Replica) (c : ModelClock) → Holds l r mem.old → Laid l r.delivery.me at → in_range l (has_of replica c) ≡ true → answer.now ≡ code_answer l r (has_of replica c) → Holds l (after l r (has_of replica c)) mem.new }
-{
-    if let Answer::Reply { clock } = answer {
-        learn(mem, at, replica as usize, clock);
-    }
-}
-
-// What an event does that is answered so: nothing, if it is refused.
-pub fn apply(mem: &mut [u64], at: Place, event: &Checked, answer: &Answer)
-    requires { Ranged at }
-    ensures { (l : ModelLimits) (r : Replica) (e : ModelEvent) → Holds l r mem.old → Laid l r.delivery.me at → legible e ≡ true → readable e ≡ true → in_range l e ≡ true → event.now ≡ code_event e → answer.now ≡ code_answer l r e → Holds l (after l r e) mem.new }
+    ensures { (l : ModelLimits) (r : Replica) (e : ModelEvent) → Holds l r mem.old → Laid l r.delivery.me at → legible e ≡ true → readable e ≡ true → in_range l e ≡ true → event.now ≡ code_event e → Ok answer.now ≡ code_answer l r e → Holds l (after l r e) mem.new }
 {
     match event {
-        Checked::Put { key: _, text: _ } => apply_put(mem, at, answer),
-        Checked::Came { put } => apply_came(mem, at, put, answer),
-        Checked::Has { replica, clock: _ } => apply_has(mem, at, *replica, answer),
+        Checked::Put { key: _, value: _ } => apply_put(mem, at, answer),
+        Checked::Came { put } => deliver(mem, at, put),
+        Checked::Has { replica, clock } => learn(mem, at, *replica as usize, clock),
         Checked::Get { key: _ } => {}
         Checked::Tell => {}
     }
 }
 
 // WHAT AN ANSWER SAYS, by its number and its values, is what the rules say.
-pub fn answer_said() -> u8
+pub fn answer_said()
     ensures { AnswerSaid }
-{
-    0
-}
+{}

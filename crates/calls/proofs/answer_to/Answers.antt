@@ -1,4 +1,4 @@
-use Rattle.std.proofs.Common.{◌≡◌, true, sym, ◌∙◌}
+use Rattle.std.proofs.Common.{◌≡◌, Ok, true, sym, ◌∙◌}
 use Rattle.model.specs.Program.{readable}
 use Rattle.model.specs.Put.{text}
 use Rattle.model.specs.Replica.{in_range}
@@ -9,12 +9,12 @@ use Rattle.calls.proofs.answer_to.Goals as goal
 
 pub returns-in-Put : goal.returns-in-Put
 returns-in-Put c = λ l r e h x all leg rd inr ev.
-    put_case (λ y. in_range l y ≡ true → c.put_answer.result ≡ code_answer l r y) c.in-Put.key c.in-Put.text
+    put_case (λ y. in_range l y ≡ true → c.put_answer.result ≡ code_answer l r y) c.in-Put.key c.in-Put.value
     (λ v t inr'. c.put_answer.ensures l r v h x all t (put_good l (text c.in-Put.key v) inr')) e (sym c.in-Put.is ∙ ev) inr
 
 pub returns-in-Get : goal.returns-in-Get
 returns-in-Get c = λ l r e h x all leg rd inr ev.
-    get_case (λ y. in_range l y ≡ true → c.get_answer.result ≡ code_answer l r y) c.in-Get.key (λ inr'. c.get_answer.ensures l r h all (get_good l c.in-Get.key inr')) e (sym c.in-Get.is ∙ ev) inr
+    get_case (λ y. in_range l y ≡ true → Ok c.get_answer.result ≡ code_answer l r y) c.in-Get.key (λ inr'. c.get_answer.ensures l r h all (get_good l c.in-Get.key inr')) e (sym c.in-Get.is ∙ ev) inr
 
 pub returns-in-Came : goal.returns-in-Came
 returns-in-Came c = λ l r e h x all leg rd inr ev.
@@ -22,4 +22,4 @@ returns-in-Came c = λ l r e h x all leg rd inr ev.
     (λ q t rd' inr'. c.came_answer.ensures l r q h x all (came_sound l q h.valid.few.replicas.1 (came_bytes q rd') inr') inr' t) e (sym c.in-Came.is ∙ ev) rd inr
 
 pub returns-in-Tell : goal.returns-in-Tell
-returns-in-Tell c = λ l r e h x all leg rd inr ev. tell_case (λ y. c.tell_answer.result ≡ code_answer l r y) (c.tell_answer.ensures l r h all) e leg (sym c.in-Tell.is ∙ ev)
+returns-in-Tell c = λ l r e h x all leg rd inr ev. tell_case (λ y. Ok c.tell_answer.result ≡ code_answer l r y) (c.tell_answer.ensures l r h all) e leg (sym c.in-Tell.is ∙ ev)

@@ -1,30 +1,22 @@
-use Rattle.std.proofs.Common.{◌≡◌, ℕ, sym, refl, subst, inl, inr, arith}
+use Rattle.std.proofs.Common.{◌≡◌, refl}
 use Rattle.model.specs.Delivery.{stamped}
 use Rattle.model.specs.Replica.{moves, put}
 use Rattle.model.proofs.Replica.{passed}
 use Rattle.model.proofs.Steps.{own_ready}
 use Rattle.puts.specs.Values.{code_put}
-use Rattle.logs.specs.State.{Holds}
 use Rattle.delivery.proofs.Takes.{room_of, stamped_sound}
-use Rattle.calls.proofs.Acts.{code_cases}
+use Rattle.calls.proofs.Acts.{was_accepted}
 use Rattle.calls.proofs.Events.{done_as}
 use Rattle.calls.proofs.apply_put.Goals as goal
 
 pub returns-in-Made : goal.returns-in-Made
 unfolding moves
 returns-in-Made c = λ l r b h x bytes good a.
-    elim (code_cases l r (put b) c.args.answer.now a) [
-      | inl y ↦
-          let d = r.delivery in
-          let room = room_of l r b (passed l r (put b) y.0).has_log_room in
-          let same : c.in-Made.put ≡ code_put (stamped b d) = cc in
-          done_as l r (put b) _ y.0 (c.take_own.ensures l r (stamped b d) h x (stamped_sound l r b h.valid.fits bytes good room.1) (own_ready b d) refl room.0 same)
-      | inr y ↦ let z : ◌≡◌ {A = ℕ} 0 1 = cc in absurd (omega arith)
-    ]
+    let y = was_accepted l r (put b) c.args.answer.now a in
+    let d = r.delivery in
+    let room = room_of l r b (passed l r (put b) y.0).has_log_room in
+    let same : c.in-Made.put ≡ code_put (stamped b d) = cc in
+    done_as l r (put b) _ y.0 (c.take_own.ensures l r (stamped b d) h x (stamped_sound l r b h.valid.fits bytes good room.1) (own_ready b d) refl room.0 same)
 
 pub returns-in_default : goal.returns-in_default
-returns-in_default c = λ l r b h x bytes good a.
-    elim (code_cases l r (put b) c.args.answer.now a) [
-      | inl y ↦ absurd (c.in_default.not-Made _ y.1)
-      | inr y ↦ subst (λ s. Holds l s c.args.mem.now) (sym y.0) h
-    ]
+returns-in_default c = λ l r b h x bytes good a. absurd (c.in_default.not-Made _ (was_accepted l r (put b) c.args.answer.now a).1)

@@ -1,18 +1,20 @@
+use Rattle.std.proofs.lemmas.Result.{err_from_is_err_and}
 use Rattle.std.proofs.Common.{refl}
 use Rattle.model.specs.Replica.{came, place}
 use Rattle.calls.proofs.Events.{accepted_as, comes, comes_full, comes_impossible, refused_as}
 use Rattle.calls.proofs.came_answer.Goals as goal
 
-pub returns-in_default : goal.returns-in_default
+pub returns-in_err-possible_put : goal.returns-in_err-possible_put
 unfolding place
-returns-in_default c = λ l r q h x all s g e. refused_as l r (came q) 2 c.refused.result c.refused.ensures refl (comes_impossible l r all q g (c.in_default.ensures l r q h x s e))
+returns-in_err-possible_put c = let p = err_from_is_err_and c.from_residual.result c.from_residual.ensures.1 in rw (p.1, p.2) (λ l r q h x all s g e.
+    let no = c.in_err-possible_put.ensures l r q h x s e in
+    refused_as l r (came q) 2 _ no.1 refl (comes_impossible l r all q g no.0))
 
-pub returns-in_default-queue_room : goal.returns-in_default-queue_room
+pub returns-in_err-queue_room : goal.returns-in_err-queue_room
 unfolding place
-returns-in_default-queue_room c = λ l r q h x all s g e.
-    refused_as l r (came q) 4 c.refused-in_default-queue_room.result c.refused-in_default-queue_room.ensures refl
-    (comes_full l r all q g (c.in-Some.ensures l r q h x s e).0 (c.in_default-queue_room.ensures l r q h x s e))
+returns-in_err-queue_room c = let p = err_from_is_err_and c.from_residual-in_err-queue_room.result c.from_residual-in_err-queue_room.ensures.1 in rw (p.1, p.2) (λ l r q h x all s g e.
+    let no = c.in_err-queue_room.ensures l r q h x s e in
+    refused_as l r (came q) 4 _ no.1 refl (comes_full l r all q g (c.in_ok-possible_put.ensures l r q h x s e) no.0))
 
 pub returns : goal.returns
-returns c = λ l r q h x all s g e.
-    accepted_as l r (came q) _ refl (comes l r all q g (c.in-Some.ensures l r q h x s e).0 (c.in-Some-queue_room.ensures l r q h x s e).0)
+returns c = λ l r q h x all s g e. accepted_as l r (came q) _ refl (comes l r all q g (c.in_ok-possible_put.ensures l r q h x s e) (c.in_ok-queue_room.ensures l r q h x s e))

@@ -1,11 +1,15 @@
-use Rattle.std.proofs.Common.{arith}
+use Rattle.std.proofs.Common.{arith, refl}
 use Rattle.logs.proofs.Changes.{fitted}
 use Rattle.calls.proofs.Events.{own_is}
 use Rattle.calls.proofs.Told.{told_enough, told_too_much}
 use Rattle.calls.proofs.possible_clock.Goals as goal
 
-pub returns-then-told-own : goal.returns-then-told-own
-returns-then-told-own c = λ l r j k h x long e. told_too_much l r j k c.count_of-own.result c.count-told.result c.args.at.me c.args.clock.now h.valid (own_is l r c.args.at c.count_of-own.result h.valid x (c.count_of-own.ensures l r (fitted l r c.args.mem.now h))) x.me long e c.count-told.ensures c.if-told-own.true
+pub returns-then-count-count_of : goal.returns-then-count-count_of
+returns-then-count-count_of c = λ l r j k h x long e.
+    let own = own_is l r c.args.at c.count_of.result h.valid x (c.count_of.ensures l r (fitted l r c.args.mem.now h)) in
+    (told_too_much l r j k c.count_of.result c.count.result c.args.at.me c.args.clock.now h.valid own x.me long e c.count.ensures (omega arith), refl)
 
 pub returns : goal.returns
-returns c = λ l r j k h x long e. (told_enough l r j k c.count_of-own.result c.count-told.result c.args.at.me c.args.clock.now h.valid (own_is l r c.args.at c.count_of-own.result h.valid x (c.count_of-own.ensures l r (fitted l r c.args.mem.now h))) x.me long e c.count-told.ensures (omega arith), (own_is l r c.args.at c.count_of-own.result h.valid x (c.count_of-own.ensures l r (fitted l r c.args.mem.now h))))
+returns c = λ l r j k h x long e.
+    let own = own_is l r c.args.at c.count_of.result h.valid x (c.count_of.ensures l r (fitted l r c.args.mem.now h)) in
+    told_enough l r j k c.count_of.result c.count.result c.args.at.me c.args.clock.now h.valid own x.me long e c.count.ensures (omega arith)
