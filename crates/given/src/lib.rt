@@ -7,99 +7,67 @@ ghost use Rattle.given.specs.Statements.{ShowsLatest, CausallyClosed, SameClockS
 ghost use Rattle.given.specs.Translation.{flat};
 
 // False of a build that does not support get, so with that premise.
-pub fn shows_latest() -> u8
+pub fn shows_latest()
     ensures { (can : ℕ → Bool) → can 1 ≡ true → ShowsLatest can }
-{
-    0
-}
+{}
 
-pub fn shows_latest_needs_get() -> u8
+pub fn shows_latest_needs_get()
     ensures { (can : ℕ → Bool) → can 1 ≡ false → ShowsLatest can → ⊥ }
-{
-    0
-}
+{}
 
-pub fn causally_closed() -> u8
+pub fn causally_closed()
     ensures { (can : ℕ → Bool) → CausallyClosed can }
-{
-    0
-}
+{}
 
-pub fn same_clock_same_view() -> u8
+pub fn same_clock_same_view()
     ensures { (can : ℕ → Bool) → SameClockSameView can }
-{
-    0
-}
+{}
 
-pub fn converges() -> u8
+pub fn converges()
     ensures { (can : ℕ → Bool) → Converges can }
-{
-    0
-}
+{}
 
-pub fn seen_is_earlier() -> u8
+pub fn seen_is_earlier()
     ensures { (can : ℕ → Bool) → SeenIsEarlier can }
-{
-    0
-}
+{}
 
-pub fn later_is_total() -> u8
+pub fn later_is_total()
     ensures { (can : ℕ → Bool) → LaterIsTotal can }
-{
-    0
-}
+{}
 
-pub fn reads_own_put() -> u8
+pub fn reads_own_put()
     ensures { (can : ℕ → Bool) → ReadsOwnPut can }
-{
-    0
-}
+{}
 
-pub fn ready_is_taken() -> u8
+pub fn ready_is_taken()
     ensures { (can : ℕ → Bool) → ReadyIsTaken can }
-{
-    0
-}
+{}
 
-pub fn pruned_is_everywhere() -> u8
+pub fn pruned_is_everywhere()
     ensures { (can : ℕ → Bool) → PrunedIsEverywhere can }
-{
-    0
-}
+{}
 
-pub fn view_monotone() -> u8
+pub fn view_monotone()
     ensures { ViewMonotone }
-{
-    0
-}
+{}
 
-pub fn clock_monotone() -> u8
+pub fn clock_monotone()
     ensures { ClockMonotone }
-{
-    0
-}
+{}
 
-pub fn refusal_changes_nothing() -> u8
+pub fn refusal_changes_nothing()
     ensures { RefusalChangesNothing }
-{
-    0
-}
+{}
 
 // What the model asks of a program is what the flat form asks of it.
-pub fn answers_right() -> u8
+pub fn answers_right()
     ensures { (can : ℕ → Bool) (f : Program) → ModelAnswersRight can f → AnswersRight can (flat f) }
-{
-    0
-}
+{}
 
-pub fn refusal_keeps_memory() -> u8
+pub fn refusal_keeps_memory()
     ensures { (can : ℕ → Bool) (f : Program) → ModelRefusalKeepsMemory can f → RefusalKeepsMemory can (flat f) }
-{
-    0
-}
+{}
 
-pub fn memory_bounded() -> u8
+pub fn memory_bounded()
     ensures { (can : ℕ → Bool) (f : Program) → ModelMemoryBounded can f → MemoryBounded can (flat f) }
-{
-    0
-}
+{}

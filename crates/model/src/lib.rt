@@ -6,168 +6,114 @@ ghost use Rattle.model.specs.Example.{WorkedExample, ReplyOfEight};
 ghost use Rattle.model.specs.Instances.{PremisesMet};
 
 // Of any replica, in any state.
-pub fn refusal_changes_nothing() -> u8
+pub fn refusal_changes_nothing()
     ensures { RefusalChangesNothing }
-{
-    0
-}
+{}
 
-pub fn again_changes_nothing() -> u8
+pub fn again_changes_nothing()
     ensures { AgainChangesNothing }
-{
-    0
-}
+{}
 
-pub fn clock_monotone() -> u8
+pub fn clock_monotone()
     ensures { ClockMonotone }
-{
-    0
-}
+{}
 
-pub fn view_monotone() -> u8
+pub fn view_monotone()
     ensures { ViewMonotone }
-{
-    0
-}
+{}
 
-pub fn store_is_fold() -> u8
+pub fn store_is_fold()
     ensures { StoreIsFold }
-{
-    0
-}
+{}
 
 // Of any reachable cluster.
-pub fn taken_is_had() -> u8
+pub fn taken_is_had()
     ensures { TakenIsHad }
-{
-    0
-}
+{}
 
-pub fn causal_order() -> u8
+pub fn causal_order()
     ensures { CausalOrder }
-{
-    0
-}
+{}
 
-pub fn shows_latest() -> u8
+pub fn shows_latest()
     ensures { ShowsLatest }
-{
-    0
-}
+{}
 
-pub fn causally_closed() -> u8
+pub fn causally_closed()
     ensures { CausallyClosed }
-{
-    0
-}
+{}
 
-pub fn same_clock_same_view() -> u8
+pub fn same_clock_same_view()
     ensures { SameClockSameView }
-{
-    0
-}
+{}
 
-pub fn seen_is_earlier() -> u8
+pub fn seen_is_earlier()
     ensures { SeenIsEarlier }
-{
-    0
-}
+{}
 
-pub fn later_is_total() -> u8
+pub fn later_is_total()
     ensures { LaterIsTotal }
-{
-    0
-}
+{}
 
-pub fn reads_own_put() -> u8
+pub fn reads_own_put()
     ensures { ReadsOwnPut }
-{
-    0
-}
+{}
 
-pub fn ready_is_taken() -> u8
+pub fn ready_is_taken()
     ensures { ReadyIsTaken }
-{
-    0
-}
+{}
 
-pub fn pruned_is_everywhere() -> u8
+pub fn pruned_is_everywhere()
     ensures { PrunedIsEverywhere }
-{
-    0
-}
+{}
 
 // Convergence.
-pub fn converges() -> u8
+pub fn converges()
     ensures { Converges }
-{
-    0
-}
+{}
 
-pub fn rounds_happen() -> u8
+pub fn rounds_happen()
     ensures { RoundsHappen }
-{
-    0
-}
+{}
 
-pub fn converges_apart() -> u8
+pub fn converges_apart()
     ensures { ConvergesApart }
-{
-    0
-}
+{}
 
-pub fn converges_by_list() -> u8
+pub fn converges_by_list()
     ensures { ConvergesByList }
-{
-    0
-}
+{}
 
-pub fn converges_in_order() -> u8
+pub fn converges_in_order()
     ensures { ConvergesInOrder }
-{
-    0
-}
+{}
 
 // Programs that answer right.
-pub fn program_is_replica() -> u8
+pub fn program_is_replica()
     ensures { ProgramIsReplica }
-{
-    0
-}
+{}
 
-pub fn program_shows_latest() -> u8
+pub fn program_shows_latest()
     ensures { ProgramShowsLatest }
-{
-    0
-}
+{}
 
-pub fn programs_agree() -> u8
+pub fn programs_agree()
     ensures { ProgramsAgree }
-{
-    0
-}
+{}
 
-pub fn programs_converge() -> u8
+pub fn programs_converge()
     ensures { ProgramsConverge }
-{
-    0
-}
+{}
 
 // Examples, by computing; and that no theorem speaks of nothing.
-pub fn worked_example() -> u8
+pub fn worked_example()
     ensures { WorkedExample }
-{
-    0
-}
+{}
 
-pub fn reply_of_eight() -> u8
+pub fn reply_of_eight()
     ensures { ReplyOfEight }
-{
-    0
-}
+{}
 
-pub fn premises_met() -> u8
+pub fn premises_met()
     ensures { PremisesMet }
-{
-    0
-}
+{}
