@@ -8,6 +8,7 @@ use Rattle.puts.specs.Values.{code_put}
 use Rattle.puts.proofs.Padded.{put_back}
 use Rattle.memory.specs.Valid.{Sound}
 use Rattle.calls.specs.Answered.{AllSupported, Answer, code_answer, code_says, one_put, reason}
+use Rattle.calls.specs.declared.Reason.{Reason}
 
 -- an event whose bytes were read and whose numbers are in range
 pub record Right (l : Limits) (e : Event) : Type 0 where
@@ -83,6 +84,14 @@ was_accepted l r e a s = go (refusal l r e) refl
     go : (n : ℕ) → refusal l r e ≡ n → (refusal l r e ≡ 0) × (a ≡ code_says r e)
     go zero z = let t : Ok a ≡ Ok (code_says r e) = s ∙ code_accepted l r e z in (z, grind (arith, t))
     go (suc n) z = let t : Ok a ≡ Err (reason (suc n) (place e)) = s ∙ code_refused l r e n z in absurd (grind (arith, t))
+
+-- a reason of the code is that of a refusal, which changes nothing
+pub was_refused : (l : Limits) (r : Replica) (e : Event) (w : Reason) → Err w ≡ code_answer l r e → (n : ℕ) × (refusal l r e ≡ suc n) × (w ≡ reason (suc n) (place e))
+was_refused l r e w s = go (refusal l r e) refl
+  where
+    go : (n : ℕ) → refusal l r e ≡ n → (n : ℕ) × (refusal l r e ≡ suc n) × (w ≡ reason (suc n) (place e))
+    go zero z = let t : Err w ≡ Ok (code_says r e) = s ∙ code_accepted l r e z in absurd (grind (arith, t))
+    go (suc n) z = let t : Err w ≡ Err (reason (suc n) (place e)) = s ∙ code_refused l r e n z in (n, z, grind (arith, t))
 
 -- refused by 2
 pub out_of_range_is_2 : (l : Limits) (r : Replica) (e : Event) → legible e ≡ true → (l.supports (event_number e) && in_range l e) ≡ false → refusal l r e ≡ 2

@@ -3,3 +3,4 @@ pub mod Events
 pub mod Told
 pub mod Cases
 pub mod Said
+pub mod Enters

@@ -1,19 +1,20 @@
 -- What an answer of the code says.
-use Rattle.std.proofs.Common.{◌≡◌, ℕ, zero, suc, ◌<◌, ◌≤◌, Ok, subst, ◌⊎◌, inl, inr, true, cond, [], ◌∷◌, sym, refl, ap, ◌∙◌, arith, ne_eqb}
+use Rattle.std.proofs.Common.{◌≡◌, ℕ, zero, suc, ◌<◌, ◌≤◌, Ok, Err, subst, ◌⊎◌, inl, inr, true, cond, [], ◌∷◌, sym, refl, ap, ◌∙◌, arith, ne_eqb}
 use Rattle.model.specs.Limits.{Limits}
 use Rattle.model.specs.Delivery.{reply, stamped}
 use Rattle.model.specs.Store.{shown}
 use Rattle.model.specs.Program.{readable}
-use Rattle.model.specs.Replica.{Replica, Event, put, get, came, has, tell, garbled, refused, puts, value, clock_is, first_failing, in_range, legible, place, refusal, says, answer}
-use Rattle.model.proofs.Replica.{Passed, answer_accepted, passed}
+use Rattle.model.specs.Replica.{Replica, Event, put, get, came, has, tell, garbled, refused, puts, value, clock_is, first_failing, in_range, legible, place, refusal, says, after, answer}
+use Rattle.model.proofs.Replica.{Passed, answer_accepted, passed, refusal_changes_nothing}
 use Rattle.puts.specs.Values.{clock_size}
 use Rattle.puts.specs.Words.{Slot, code_slot}
 use Rattle.puts.proofs.Padded.{take_pad}
 use Rattle.memory.specs.Valid.{SoundSlot, Valid}
 use Rattle.delivery.proofs.Takes.{room_of, stamped_sound}
 use Rattle.calls.specs.Answered.{AnswerSaid, code_answer, code_says, none_or_one, number_of, place_of, reason, says_in}
-use Rattle.calls.proofs.Acts.{back, code_accepted, code_refused, refusal_few}
+use Rattle.calls.proofs.Acts.{back, code_accepted, code_refused, refusal_few, was_refused}
 use Rattle.calls.proofs.Cases.{body_bytes, get_good, put_good}
+use Rattle.calls.specs.declared.Reason.{Reason}
 use Rattle.calls.proofs.Told.{told_long}
 
 value_said : (l : Limits) (s : Slot) → SoundSlot l s → value (none_or_one l.replicas (code_slot s)) ≡ value s
@@ -54,12 +55,20 @@ module _ (l : Limits) (r : Replica) (v : Valid l r) where
   accepted_said tell p h g = ap clock_is (take_pad clock_size l.replicas r.delivery.clock v.fits.delivery.clock v.fits.delivery.replicas)
   accepted_said (garbled n) p h g = refl
 
+-- a reason of the code has the number and the place of the refusal
+refused_as : (l : Limits) (r : Replica) (e : Event) (n : ℕ) → refusal l r e ≡ suc n → refused (number_of (reason (suc n) (place e))) (place_of (reason (suc n) (place e))) ≡ answer l r e
+refused_as l r e n z =
+    numbered (suc n) (place e) (subst (λ k. k ≤ 5) z (refusal_few l r e)) (omega arith) (elim (placed l r e) [ inl o ↦ inl o | inr o ↦ inr (sym z ∙ o) ])
+    ∙ sym (ap (λ b. cond b (says r e) (refused (refusal l r e) (place e))) (ne_eqb (refusal l r e) 0 (λ y. omega (arith, y, z))) ∙ ap (λ k. refused k (place e)) z)
+
+pub refused_said : (l : Limits) (r : Replica) (e : Event) (w : Reason) → Err w ≡ code_answer l r e → (refused (number_of w) (place_of w) ≡ answer l r e) × (after l r e ≡ r)
+refused_said l r e w s =
+    let t = was_refused l r e w s in
+    (ap (λ x. refused (number_of x) (place_of x)) t.2 ∙ refused_as l r e t.0 t.1, refusal_changes_nothing l r e (omega (arith, t.1)))
+
 pub answer_said : AnswerSaid
 answer_said l r e v rd g = go (refusal l r e) refl
   where
     go : (n : ℕ) → refusal l r e ≡ n → says_in l.replicas r.delivery (code_answer l r e) ≡ answer l r e
     go zero z = ap (says_in l.replicas r.delivery) (code_accepted l r e z) ∙ accepted_said l r v e (passed l r e z) rd g ∙ sym (answer_accepted l r e z)
-    go (suc n) z =
-        ap (says_in l.replicas r.delivery) (code_refused l r e n z)
-        ∙ numbered (suc n) (place e) (subst (λ k. k ≤ 5) z (refusal_few l r e)) (omega arith) (elim (placed l r e) [ inl o ↦ inl o | inr o ↦ inr (sym z ∙ o) ])
-        ∙ sym (ap (λ b. cond b (says r e) (refused (refusal l r e) (place e))) (ne_eqb (refusal l r e) 0 (λ y. omega (arith, y, z))) ∙ ap (λ k. refused k (place e)) z)
+    go (suc n) z = ap (says_in l.replicas r.delivery) (code_refused l r e n z) ∙ refused_as l r e n z

@@ -4,20 +4,28 @@
 ghost use Rattle.logs.specs.State.{Holds, Laid, Ranged};
 ghost use Rattle.model.specs.Clock.{Clock as ModelClock};
 ghost use Rattle.model.specs.Limits.{Limits as ModelLimits};
-ghost use Rattle.memory.specs.Valid.{Sound};
+ghost use Rattle.memory.specs.Image.{encode};
+ghost use Rattle.memory.specs.Layout.{Room, limits_at, me_at};
+ghost use Rattle.memory.specs.Valid.{Sound, Valid};
 ghost use Rattle.model.specs.Program.{readable};
 ghost use Rattle.model.specs.Put.{Body, Put as ModelPut, good_body, text as text_of, value_of};
-ghost use Rattle.model.specs.Replica.{Event as ModelEvent, Replica, after, came as came_of, get as get_of, has as has_of, in_range, legible, log_room, possible, put as put_of, queue_room as has_queue_room, tell as tell_of};
+ghost use Rattle.model.specs.Replica.{Event as ModelEvent, Replica, after, came as came_of, get as get_of, has as has_of, in_range as is_in_range, legible, log_room, possible, put as put_of, queue_room as has_queue_room, tell as tell_of};
 ghost use Rattle.puts.specs.Values.{Bytes, code_clock, code_put, code_text};
 ghost use Rattle.ranges.specs.Checked.{code_event};
 ghost use Rattle.calls.specs.Answered.{AllSupported, AnswerSaid, Passes, code_answer};
-ghost use Rattle.calls.specs.declared.Reason.TheVariants.{Impossible, LogFull, QueueFull};
-ghost use Rattle.std.specs.Prelude.{◌≡◌, ℕ, ◌<◌, true, List, Ok, length};
+ghost use Rattle.calls.specs.Entered.{Entered, words_at};
+ghost use Rattle.calls.specs.declared.Reason.TheVariants.{Impossible, LogFull, NoEvent, OutOfRange, QueueFull};
+ghost use Rattle.std.specs.Prelude.{◌≡◌, ℕ, ◌<◌, ◌≤◌, true, List, ◌++◌, IfOk, Ok, Err, length};
 
 use delivery::{deliver, had, nothing_new, ready, stamp, take_own};
 use logs::{Place, clock_of, count_of, learn, logged, value_at, waiting};
+use memory::{Refusal as Foreign, limits_of};
+use puts::words::SLOT;
 use puts::{Clock, Put, Text};
-use ranges::Checked;
+use ranges::{Checked, in_range};
+use slots::HEADER;
+use wire::event::Refusal as Garbled;
+use wire::read::read_event;
 
 // Why an event is refused.
 #[derive(Clone, Copy, Debug, PartialEq, Eq)]
@@ -34,6 +42,24 @@ pub enum Reason {
     QueueFull,
 }
 
+impl From<Garbled> for Reason {
+    ghost from_gives = { λ g w. w ≡ NoEvent g.place };
+
+    fn from(garbled: Garbled) -> Reason {
+        Reason::NoEvent {
+            place: garbled.place,
+        }
+    }
+}
+
+impl From<Foreign> for Reason {
+    ghost from_gives = { λ _ w. w ≡ OutOfRange };
+
+    fn from(_: Foreign) -> Reason {
+        Reason::OutOfRange
+    }
+}
+
 // What an event that is accepted is answered. The puts of a reply stand as `R`.
 #[derive(Clone, Copy, Drop)]
 pub enum Answer<R> {
@@ -46,6 +72,26 @@ pub enum Answer<R> {
 
 // Each count, and the number of a put, is below this.
 const COUNT_BOUND: u64 = 4294967296;
+
+// How many words a replica takes whose parts lie so.
+pub fn words(at: Place) -> usize
+    requires { Ranged at }
+    ensures { result ≡ words_at at }
+{
+    HEADER + SLOT * (at.layout.waiting.base + at.layout.waiting.count)
+}
+
+// The event that the bytes are at the replica whose memory this is, with the place of its parts there; or why it is refused before anything is read but the header.
+pub fn enter(mem: &[u64], bytes: &[u8]) -> Result<(Place, Checked), Reason>
+    ensures image { (l : ModelLimits) (r : Replica) (rest : List ℕ) → AllSupported l → Valid l r → mem.now ≡ encode l r ++ rest → Entered l r bytes.now result }
+    ensures foreign { (Room (limits_at mem.now) (me_at mem.now) mem.now → ⊥) → result ≡ Err OutOfRange }
+    ensures room { IfOk result (λ x. Ranged x.0 × (words_at x.0 ≤ length mem.now) × Room (limits_at mem.now) (me_at mem.now) mem.now) }
+{
+    let (limits, me) = limits_of(mem)?;
+    let event = read_event(bytes)?;
+    let event = in_range(limits, event).ok_or(Reason::OutOfRange)?;
+    Ok((Place::new(limits, me), event))
+}
 
 // One more own put has its room and its number.
 fn own_room(mem: &[u64], at: Place) -> Result<(), Reason>
@@ -91,7 +137,7 @@ fn queue_room(mem: &[u64], at: Place, p: &Put) -> Result<(), Reason>
 // A put came.
 fn came_answer(mem: &[u64], at: Place, p: &Put) -> Result<Answer<Clock>, Reason>
     requires { Ranged at }
-    ensures { (l : ModelLimits) (r : Replica) (q : ModelPut Body) → Holds l r mem.now → Laid l r.delivery.me at → AllSupported l → Sound l q → in_range l (came_of q) ≡ true → p.now ≡ code_put q → result ≡ code_answer l r (came_of q) }
+    ensures { (l : ModelLimits) (r : Replica) (q : ModelPut Body) → Holds l r mem.now → Laid l r.delivery.me at → AllSupported l → Sound l q → is_in_range l (came_of q) ≡ true → p.now ≡ code_put q → result ≡ code_answer l r (came_of q) }
 {
     possible_put(mem, at, p)?;
     queue_room(mem, at, p)?;
@@ -110,7 +156,7 @@ fn possible_clock(mem: &[u64], at: Place, clock: &Clock) -> Result<(), Reason>
 
 // A replica told its clock. The reply is read off it later.
 fn has_answer(mem: &[u64], at: Place, clock: &Clock) -> Result<Answer<Clock>, Reason>
-    ensures { (l : ModelLimits) (r : Replica) (j : ℕ) (c : ModelClock) → Holds l r mem.now → Laid l r.delivery.me at → AllSupported l → in_range l (has_of j c) ≡ true → clock.now ≡ code_clock c → result ≡ code_answer l r (has_of j c) }
+    ensures { (l : ModelLimits) (r : Replica) (j : ℕ) (c : ModelClock) → Holds l r mem.now → Laid l r.delivery.me at → AllSupported l → is_in_range l (has_of j c) ≡ true → clock.now ≡ code_clock c → result ≡ code_answer l r (has_of j c) }
 {
     possible_clock(mem, at, clock)?;
     Ok(Answer::Reply { to: *clock })
@@ -138,7 +184,7 @@ fn tell_answer(mem: &[u64]) -> Answer<Clock>
 // What an event whose numbers are in range is answered, or why it is refused. Nothing changes.
 pub fn answer_to(mem: &[u64], at: Place, event: &Checked) -> Result<Answer<Clock>, Reason>
     requires { Ranged at }
-    ensures { (l : ModelLimits) (r : Replica) (e : ModelEvent) → Holds l r mem.now → Laid l r.delivery.me at → AllSupported l → legible e ≡ true → readable e ≡ true → in_range l e ≡ true → event.now ≡ code_event e → result ≡ code_answer l r e }
+    ensures { (l : ModelLimits) (r : Replica) (e : ModelEvent) → Holds l r mem.now → Laid l r.delivery.me at → AllSupported l → legible e ≡ true → readable e ≡ true → is_in_range l e ≡ true → event.now ≡ code_event e → result ≡ code_answer l r e }
 {
     match event {
         Checked::Put { key, value } => put_answer(mem, at, *key, *value),
@@ -162,7 +208,7 @@ fn apply_put(mem: &mut [u64], at: Place, answer: &Answer<Clock>)
 // What an event does that is accepted and answered so.
 pub fn apply(mem: &mut [u64], at: Place, event: &Checked, answer: &Answer<Clock>)
     requires { Ranged at }
-    ensures { (l : ModelLimits) (r : Replica) (e : ModelEvent) → Holds l r mem.old → Laid l r.delivery.me at → legible e ≡ true → readable e ≡ true → in_range l e ≡ true → event.now ≡ code_event e → Ok answer.now ≡ code_answer l r e → Holds l (after l r e) mem.new }
+    ensures { (l : ModelLimits) (r : Replica) (e : ModelEvent) → Holds l r mem.old → Laid l r.delivery.me at → legible e ≡ true → readable e ≡ true → is_in_range l e ≡ true → event.now ≡ code_event e → Ok answer.now ≡ code_answer l r e → Holds l (after l r e) mem.new }
 {
     match event {
         Checked::Put { key: _, value: _ } => apply_put(mem, at, answer),
