@@ -1,5 +1,5 @@
 -- What an event is answered, by the checks that it passes.
-use Rattle.std.proofs.Common.{◌≡◌, ◌≤◌, ℕ, zero, suc, Ok, Err, Bool, true, false, cond, ◌&&◌, ◌⊎◌, refl, ap, ◌∙◌, inl, inr, arith, eq-eqb, ne_eqb}
+use Rattle.std.proofs.Common.{◌≡◌, ◌≤◌, ℕ, zero, suc, Ok, Err, Bool, true, false, cond, ◌&&◌, refl, ap, ◌∙◌, arith, eq-eqb, ne_eqb}
 use Rattle.model.specs.Limits.{Limits}
 use Rattle.model.specs.Put.{Put, Body}
 use Rattle.model.specs.Replica.{Replica, Event, legible, in_range, possible, log_room, queue_room, event_number, first_failing, place, refusal}

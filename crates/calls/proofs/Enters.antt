@@ -1,15 +1,15 @@
 -- A call over bytes and memory, before the event happens.
-use Rattle.std.proofs.Common.{◌≡◌, ℕ, suc, ◌+◌, ◌*◌, true, false, ◌&&◌, Bool, Some, None, Option, Ok, Err, Result, sym, refl, ap, ◌∙◌, arith}
+use Rattle.std.proofs.Common.{◌≡◌, ℕ, true, false, ◌&&◌, Bool, Some, None, Option, Ok, Err, Result, sym, refl, ap, ◌∙◌, arith}
 use Rattle.std.specs.Option.{ok_or}
 use Rattle.model.specs.Limits.{Limits}
-use Rattle.model.specs.Replica.{Replica, Event, garbled, legible, in_range, event_number, first_failing, place, refusal}
+use Rattle.model.specs.Replica.{Replica, Event, garbled, legible, in_range, event_number, first_failing, place}
 use Rattle.memory.specs.Layout.{code_limits, model_limits, total}
 use Rattle.memory.specs.declared.Limits.{Limits as CodeLimits}
 use Rattle.logs.specs.State.{Laid}
 use Rattle.logs.specs.declared.Place.{Place}
 use Rattle.puts.specs.declared.event.Event.TheVariants.{Put, Get, Came, Has, Tell}
 use Rattle.wire.specs.Said.{Event as CodeEvent, event}
-use Rattle.calls.specs.Answered.{AllSupported, code_answer, reason}
+use Rattle.calls.specs.Answered.{AllSupported, code_answer}
 use Rattle.calls.specs.Entered.{words_at}
 use Rattle.ranges.specs.Checked.{Handed}
 use Rattle.calls.specs.declared.Reason.{Reason}
@@ -51,3 +51,7 @@ not_handed x (Some y) w v e h = absurd (grind (arith, e))
 pub was_handed : {A : Type 0} {b : Bool} (x : A) (o : Option A) (w : Reason) (y : A) → ok_or o w ≡ Ok y → Handed b x o → (b ≡ true) × (y ≡ x)
 was_handed x None w y e h = absurd (grind (arith, e))
 was_handed x (Some z) w y e h = let g : z ≡ y = cc in (h.0, sym g ∙ h.1)
+
+-- the error of a result
+pub same_error : {A E : Type 0} {w v : E} → ◌≡◌ {A = Result A E} (Err w) (Err v) → w ≡ v
+same_error e = cc

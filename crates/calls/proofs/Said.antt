@@ -1,18 +1,21 @@
 -- What an answer of the code says.
-use Rattle.std.proofs.Common.{◌≡◌, ℕ, zero, suc, ◌<◌, ◌≤◌, Ok, Err, subst, ◌⊎◌, inl, inr, true, cond, [], ◌∷◌, sym, refl, ap, ◌∙◌, arith, ne_eqb}
+use Rattle.std.proofs.Common.{◌≡◌, ℕ, zero, suc, ◌<◌, ◌≤◌, Ok, Err, subst, ◌⊎◌, inl, inr, true, cond, [], ◌∷◌, length, sym, refl, ap, ◌∙◌, arith, ne_eqb}
 use Rattle.model.specs.Limits.{Limits}
 use Rattle.model.specs.Delivery.{reply, stamped}
 use Rattle.model.specs.Store.{shown}
 use Rattle.model.specs.Program.{readable}
 use Rattle.model.specs.Replica.{Replica, Event, put, get, came, has, tell, garbled, refused, puts, value, clock_is, first_failing, in_range, legible, place, refusal, says, after, answer}
 use Rattle.model.proofs.Replica.{Passed, answer_accepted, passed, refusal_changes_nothing}
-use Rattle.puts.specs.Values.{clock_size}
+use Rattle.model.specs.Clock.{Clock}
+use Rattle.puts.specs.Values.{clock_size, code_clock}
+use Rattle.puts.specs.declared.Clock.{Clock as CodeClock}
+use Rattle.calls.specs.declared.Answer.TheVariants.{Reply}
 use Rattle.puts.specs.Words.{Slot, code_slot}
 use Rattle.puts.proofs.Padded.{take_pad}
 use Rattle.memory.specs.Valid.{SoundSlot, Valid}
 use Rattle.delivery.proofs.Takes.{room_of, stamped_sound}
 use Rattle.calls.specs.Answered.{AnswerSaid, code_answer, code_says, none_or_one, number_of, place_of, reason, says_in}
-use Rattle.calls.proofs.Acts.{back, code_accepted, code_refused, refusal_few, was_refused}
+use Rattle.calls.proofs.Acts.{back, code_accepted, code_refused, refusal_few, was_accepted, was_refused}
 use Rattle.calls.proofs.Cases.{body_bytes, get_good, put_good}
 use Rattle.calls.specs.declared.Reason.{Reason}
 use Rattle.calls.proofs.Told.{told_long}
@@ -72,3 +75,20 @@ answer_said l r e v rd g = go (refusal l r e) refl
     go : (n : ℕ) → refusal l r e ≡ n → says_in l.replicas r.delivery (code_answer l r e) ≡ answer l r e
     go zero z = ap (says_in l.replicas r.delivery) (code_accepted l r e z) ∙ accepted_said l r v e (passed l r e z) rd g ∙ sym (answer_accepted l r e z)
     go (suc n) z = ap (says_in l.replicas r.delivery) (code_refused l r e n z) ∙ refused_as l r e n z
+
+-- a reply is one to a clock that was told
+never : {A : Type 0} → ◌≡◌ {A = ℕ} 0 1 → A
+never z = absurd (omega arith)
+
+pub replied_to : (l : Limits) (r : Replica) (e : Event) (k : CodeClock) → Ok (Reply k) ≡ code_answer l r e → in_range l e ≡ true →
+    (c : Clock) × (length c ≡ l.replicas) × (k ≡ code_clock c) × (puts (reply c r.delivery) ≡ answer l r e)
+unfolding says
+replied_to l r e k a g = let y = was_accepted l r e (Reply k) a in by e y.1 y.0 g
+  where
+    by : (e : Event) → Reply k ≡ code_says r e → refusal l r e ≡ 0 → in_range l e ≡ true → (c : Clock) × (length c ≡ l.replicas) × (k ≡ code_clock c) × (puts (reply c r.delivery) ≡ answer l r e)
+    by (put x) t z g = never cc
+    by (get j) t z g = never cc
+    by (came q) t z g = never cc
+    by (has j c) t z g = (c, (told_long l j c g).1, cc, sym (answer_accepted l r (has j c) z))
+    by tell t z g = never cc
+    by (garbled n) t z g = never cc

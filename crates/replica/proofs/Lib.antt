@@ -1,6 +1,2 @@
-mod Acts
-mod Events
 mod Replies
-mod Cases
-mod Steps
 mod Running

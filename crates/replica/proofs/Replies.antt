@@ -1,44 +1,24 @@
 -- Told clocks, and the puts of a reply one by one.
-use Rattle.std.proofs.Common.{◌≡◌, ℕ, zero, suc, ◌<◌, ◌≤◌, Bool, true, false, ◌&&◌, ltb, List, [], ◌∷◌, length, take, drop, Some, None, Option, sym, refl, ap, ◌∙◌, subst, inl, inr, arith, ltb-true, le-leb}
-use borrow.Author.Tests.{lt-leb}
+use Rattle.std.proofs.lemmas.List.FromFn.{fill_by_all}
+use Rattle.std.specs.List.{range_with_len}
+use Rattle.std.specs.Array.{IsFromFnResultFrom}
+use Rattle.std.specs.Fn.{Called}
+use denote.Param.Members.{Mut}
+use Rattle.std.proofs.Common.{map, get_or, ◌+◌, ◌⊎◌, ◌≡◌, ℕ, zero, suc, ◌<◌, ◌≤◌, List, [], ◌∷◌, length, take, drop, Some, None, Option, sym, refl, ap, ◌∙◌, subst, inl, inr, arith}
 use Rattle.model.specs.Lists.{In}
 use Rattle.model.specs.Limits.{Limits, reply_most}
-use Rattle.model.specs.Clock.{Clock, at, good_clock}
+use Rattle.model.specs.Clock.{Clock}
 use Rattle.model.specs.Put.{Put, Body}
 use Rattle.model.specs.Delivery.{reply}
-use Rattle.model.specs.Replica.{Replica, has, in_range, possible}
+use Rattle.model.specs.Replica.{Replica}
 use Rattle.model.proofs.Steps.{in_reply}
-use Rattle.puts.specs.Values.{Small, clock_size, code_clock, code_put}
+use Rattle.puts.specs.Values.{code_put}
 use Rattle.puts.specs.Words.{code_slot}
-use Rattle.puts.specs.declared.Clock.{Clock as CodeClock}
 use Rattle.puts.specs.Values.{Put as CodePut}
-use Rattle.puts.proofs.Padded.{get_or_pad}
-use Rattle.memory.specs.State.{own_count}
 use Rattle.memory.specs.Valid.{AllSound, Sound, Valid}
-use Rattle.memory.proofs.Sound.{clock_fits}
 use Rattle.logs.specs.State.{nth_of}
 use Rattle.replica.specs.Answered.{some_puts}
-use Rattle.replica.proofs.Acts.{back}
-
--- THE CLOCK THAT WAS TOLD
-module _ (l : Limits) (r : Replica) (j : ℕ) (c : Clock) (own told me : ℕ) (k : CodeClock) (v : Valid l r) (is_own : own ≡ own_count r) (is_me : me ≡ r.delivery.me) (long : length c ≡ l.replicas) (e : k ≡ code_clock c) (is_told : told ≡ at k.counts me) where
-  told_is : told ≡ at c r.delivery.me
-  told_is =
-      is_told ∙ (λ i. at (e i).counts (is_me i)) ∙ get_or_pad clock_size c r.delivery.me (subst (λ n. n ≤ clock_size) (sym long) v.fits.delivery.replicas)
-
-  pub told_too_much : own < told → possible r.delivery (has j c) ≡ false
-  unfolding possible
-  told_too_much g = lt-leb (at c r.delivery.me) (own_count r) (omega (arith, told_is))
-
-  pub told_enough : told ≤ own → possible r.delivery (has j c) ≡ true
-  unfolding possible
-  told_enough g = le-leb (at c r.delivery.me) (own_count r) (omega (arith, told_is))
-
--- two tests that hold
-first_of : (a b : Bool) → (a && b) ≡ true → (a ≡ true) × (b ≡ true)
-first_of true true e = (refl, refl)
-first_of true false e = let z : ◌≡◌ {A = ℕ} 0 1 = cc in absurd (omega arith)
-first_of false b e = let z : ◌≡◌ {A = ℕ} 0 1 = cc in absurd (omega arith)
+use Rattle.calls.proofs.Acts.{back}
 
 -- THE PUTS OF A REPLY, with none behind their end
 unfoldable heads : ℕ → List (Put Body) → List (Option CodePut)
@@ -75,29 +55,34 @@ short zero qs = omega arith
 short (suc n) [] = omega arith
 short (suc n) (q ∷ qs) = let h = short n qs in omega arith
 
-pub eight : (l : Limits) (r : Replica) (c : Clock) (a₀ a₁ a₂ a₃ a₄ a₅ a₆ a₇ : Option CodePut) → Valid l r →
-    let qs : List (Put Body) = reply c r.delivery in
-    a₀ ≡ code_slot (nth_of qs 0) → a₁ ≡ code_slot (nth_of qs 1) → a₂ ≡ code_slot (nth_of qs 2) → a₃ ≡ code_slot (nth_of qs 3) → a₄ ≡ code_slot (nth_of qs 4) → a₅ ≡ code_slot (nth_of qs 5) → a₆ ≡ code_slot (nth_of qs 6) → a₇ ≡ code_slot (nth_of qs 7) →
-    some_puts l.replicas (a₀ ∷ a₁ ∷ a₂ ∷ a₃ ∷ a₄ ∷ a₅ ∷ a₆ ∷ a₇ ∷ []) ≡ qs
+one_more : (a : ℕ) → a + 1 ≡ suc a
+one_more a = omega arith
+
+-- read one by one, from place a on
+read_from : (n a : ℕ) (qs : List (Put Body)) → map (λ i. code_slot (nth_of qs i)) (range_with_len a n) ≡ heads n (drop a qs)
 unfolding heads
-eight l r c a₀ a₁ a₂ a₃ a₄ a₅ a₆ a₇ v e₀ e₁ e₂ e₃ e₄ e₅ e₆ e₇ =
-    ap (some_puts l.replicas)
-    ((λ i. e₀ i ∷ e₁ i ∷ e₂ i ∷ e₃ i ∷ e₄ i ∷ e₅ i ∷ e₆ i ∷ e₇ i ∷ [])
-    ∙ ap (λ t. s 0 ∷ s 1 ∷ s 2 ∷ s 3 ∷ s 4 ∷ s 5 ∷ s 6 ∷ t) (head_more 0 7 qs) ∙ ap (λ t. s 0 ∷ s 1 ∷ s 2 ∷ s 3 ∷ s 4 ∷ s 5 ∷ t) (head_more 1 6 qs)
-    ∙ ap (λ t. s 0 ∷ s 1 ∷ s 2 ∷ s 3 ∷ s 4 ∷ t) (head_more 2 5 qs) ∙ ap (λ t. s 0 ∷ s 1 ∷ s 2 ∷ s 3 ∷ t) (head_more 3 4 qs) ∙ ap (λ t. s 0 ∷ s 1 ∷ s 2 ∷ t) (head_more 4 3 qs)
-    ∙ ap (λ t. s 0 ∷ s 1 ∷ t) (head_more 5 2 qs) ∙ ap (λ t. s 0 ∷ t) (head_more 6 1 qs) ∙ head_more 7 0 qs)
-    ∙ all_heads l 8 qs (short reply_most _) (λ q i. in_sound l r.delivery.log q v.fits.delivery.logs (in_reply c r.delivery q i))
-  where
-    qs : List (Put Body)
-    qs = reply c r.delivery
+read_from zero a qs = refl
+read_from (suc n) a qs = ap (λ t. code_slot (nth_of qs a) ∷ t) (read_from n (a + 1) qs ∙ ap (λ k. heads n (drop k qs)) (one_more a)) ∙ head_more n a qs
 
-    s : ℕ → Option CodePut
-    s i = code_slot (nth_of qs i)
+pub eight : (l : Limits) (r : Replica) (c : Clock) (xs : List (Option CodePut)) → Valid l r → length xs ≡ 8 →
+    ((i : ℕ) → i < 8 → get_or xs i None ≡ code_slot (nth_of (reply c r.delivery) i)) → some_puts l.replicas xs ≡ reply c r.delivery
+eight l r c xs v long each =
+    ap (some_puts l.replicas) (fill_by_all (λ i. code_slot (nth_of (reply c r.delivery) i)) xs 8 None long each ∙ read_from 8 0 (reply c r.delivery))
+    ∙ all_heads l 8 (reply c r.delivery) (short reply_most _) (λ q i. in_sound l r.delivery.log q v.fits.delivery.logs (in_reply c r.delivery q i))
 
--- what is in range, of a clock that was told
-pub told_long : (l : Limits) (j : ℕ) (c : Clock) → in_range l (has j c) ≡ true → (j < l.replicas) × (length c ≡ l.replicas) × Small c
-unfolding in_range
-told_long l j c e =
-    let t = first_of (ltb j l.replicas) (good_clock l c) e in
-    let k = clock_fits l c t.1 in
-    (ltb-true j l.replicas t.0, k.0, k.1)
+here : (i k : ℕ) → i ≤ k → (i ≡ k) ⊎ (i < k)
+here zero zero h = inl refl
+here zero (suc k) h = inr (omega arith)
+here (suc i) zero h = absurd (omega arith)
+here (suc i) (suc k) h = elim (here i k (omega arith)) [ inl e ↦ inl (ap suc e) | inr e ↦ inr (omega (arith, e)) ]
+
+-- CALLS of a closure that stays as it was
+module _ {F B : Type 0} (g : Mut F (ℕ × Unit {0}) B) (f : F) (P : ℕ → B → Type 0) (one : (i : ℕ) (y : B) (q : F) → Called g f (i, tt) y q → (q ≡ f) × P i y) where
+  pub each_call : (ys : List B) (i n : ℕ) → IsFromFnResultFrom g f ys i n → (k : ℕ) (d : B) → i ≤ k → k < i + n → P k (get_or ys k d)
+  each_call ys i zero h k d a b = absurd (omega arith)
+  each_call ys i (suc n) h k d a b =
+      let now = one i h.1 h.0 h.3 in
+      elim (here i k a) [
+        | inl e ↦ subst (λ j. P j (get_or ys j d)) e (subst (P i) (sym (h.2.1 d)) now.1)
+        | inr e ↦ each_call ys (i + 1) n (subst (λ x. IsFromFnResultFrom g x ys (i + 1) n) now.0 h.4) k d (omega (arith, e)) (omega arith)
+      ]

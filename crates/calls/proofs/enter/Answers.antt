@@ -1,10 +1,9 @@
-use Rattle.std.proofs.Common.{◌≡◌, Err, sym, refl, ap, ◌∙◌, subst, arith}
+use Rattle.std.proofs.Common.{Err, sym, ap, ◌∙◌, subst, arith}
 use Rattle.std.proofs.lemmas.Result.{err_from_is_err_and}
 use Rattle.memory.specs.Layout.{Room, code_limits}
 use Rattle.memory.specs.declared.Limits.{Limits}
 use Rattle.logs.specs.State.{Laid}
 use Rattle.wire.specs.Reading.{read}
-use Rattle.wire.specs.Said.{event}
 use Rattle.model.specs.Replica.{in_range, legible, place}
 use Rattle.model.specs.Program.{readable}
 use Rattle.ranges.specs.Checked.{code_event}
@@ -18,11 +17,11 @@ pub returns-in_err-event-2-clause-image : goal.returns-in_err-event-2-clause-ima
 returns-in_err-event-2-clause-image c =
     let p = err_from_is_err_and c.from_residual-in_err-event-2.result c.from_residual-in_err-event-2.ensures.1 in
     rw (p.1, p.2) (λ l r rest all v e.
-        let is = c.in_ok-event.ensures.is in
-        let same = found c.in_ok-limits.limits (code_limits l) c.in_ok-limits.me r.delivery.me (c.in_ok-limits.ensures.image l r rest v e) in
-        let bad = not_handed _ c.in_range.result _ _ (sym c.ok_or.ensures.value ∙ c.in_err-event-2.was) (c.in_range.ensures l same.0 c.in_ok-limits.ensures.any.1.limits) in
-        ap Err (sym bad.1)
-        ∙ out_of_range l r (read c.args.bytes.now) all (ap legible (sym is) ∙ (read_legible c.in_ok-event.event).0) (ap place (sym is) ∙ (read_legible c.in_ok-event.event).1) (ap (in_range l) (sym is) ∙ bad.0))
+    let is = c.in_ok-event.ensures.is in
+    let same = found c.in_ok-limits.limits (code_limits l) c.in_ok-limits.me r.delivery.me (c.in_ok-limits.ensures.image l r rest v e) in
+    let bad = not_handed _ c.in_range.result _ _ (sym c.ok_or.ensures.value ∙ c.in_err-event-2.was) (c.in_range.ensures l same.0 c.in_ok-limits.ensures.any.1.limits) in
+    ap Err (sym bad.1)
+    ∙ out_of_range l r (read c.args.bytes.now) all (ap legible (sym is) ∙ (read_legible c.in_ok-event.event).0) (ap place (sym is) ∙ (read_legible c.in_ok-event.event).1) (ap (in_range l) (sym is) ∙ bad.0))
 
 pub returns-clause-image : goal.returns-clause-image
 returns-clause-image c = λ l r rest all v e.

@@ -1,26 +1,13 @@
-use Rattle.std.proofs.Common.{◌≡◌, true, sym, ◌∙◌}
-use Rattle.model.specs.Put.{text}
-use Rattle.model.specs.Program.{readable}
-use Rattle.model.specs.Replica.{in_range}
-use Rattle.memory.proofs.Sound.{came_sound}
-use Rattle.replica.specs.Answered.{Acted, says_in}
-use Rattle.replica.proofs.Cases.{came_bytes, came_case, get_case, get_good, put_bytes, put_case, put_good, tell_case}
+use Rattle.std.proofs.Common.{sym, subst}
+use Rattle.std.proofs.lemmas.Result.{err_from_is_err_and}
+use Rattle.logs.specs.State.{Holds}
+use Rattle.calls.proofs.Said.{refused_said}
 use Rattle.replica.proofs.act.Goals as goal
 
-pub returns-in-Put : goal.returns-in-Put
-returns-in-Put c = λ l r e h x all leg rd inr ev.
-    put_case (λ y. readable y ≡ true → in_range l y ≡ true → Acted l r y c.put.new.mem (says_in l.replicas c.put.result)) c.in-Put.key c.in-Put.text
-    (λ v t rd' inr'. c.put.ensures l r v h x all t (put_bytes c.in-Put.key v rd') (put_good l (text c.in-Put.key v) inr')) e (sym c.in-Put.is ∙ ev) rd inr
-
-pub returns-in-Get : goal.returns-in-Get
-returns-in-Get c = λ l r e h x all leg rd inr ev.
-    get_case (λ y. in_range l y ≡ true → Acted l r y c.args.mem.now (says_in l.replicas c.get.result)) c.in-Get.key (λ inr'. c.get.ensures l r h all (get_good l c.in-Get.key inr')) e (sym c.in-Get.is ∙ ev) inr
-
-pub returns-in-Came : goal.returns-in-Came
-returns-in-Came c = λ l r e h x all leg rd inr ev.
-    came_case (λ y. readable y ≡ true → in_range l y ≡ true → Acted l r y c.came.new.mem (says_in l.replicas c.came.result)) c.in-Came.put
-    (λ q t rd' inr'. c.came.ensures l r q h x all (came_sound l q h.valid.few.replicas.1 (came_bytes q rd') inr') inr' t) e (sym c.in-Came.is ∙ ev) rd inr
-
-pub returns-in-Tell : goal.returns-in-Tell
-returns-in-Tell c = λ l r e h x all leg rd inr ev.
-    tell_case (λ y. Acted l r y c.args.mem.now (says_in l.replicas c.tell.result)) (c.tell.ensures l r h all) e leg (sym c.in-Tell.is ∙ ev)
+pub returns-in_err-answer : goal.returns-in_err-answer
+returns-in_err-answer c =
+    let p = err_from_is_err_and c.from_residual.result c.from_residual.ensures.1 in
+    record {
+      holds = λ l r e h x all leg rd g ev. subst (λ s. Holds l s c.args.mem.now) (sym (refused_said l r e _ (c.in_err-answer.ensures l r e h x all leg rd g ev)).1) h;
+      says = rw (p.1, p.2) (λ l r e h x all leg rd g ev. (refused_said l r e _ (c.in_err-answer.ensures l r e h x all leg rd g ev)).0);
+    }

@@ -1,7 +1,10 @@
-use Rattle.replica.proofs.Replies.{eight}
+use Rattle.std.proofs.Common.{◌≡◌, rules, arith}
+use Rattle.model.specs.Delivery.{reply}
+use Rattle.puts.specs.Words.{code_slot}
+use Rattle.logs.specs.State.{nth_of}
+use Rattle.replica.proofs.Replies.{each_call, eight}
 use Rattle.replica.proofs.reply.Goals as goal
 
 pub returns : goal.returns
-returns c = λ l r k h x long e.
-    eight l r k c.reply_at.result c.reply_at-2.result c.reply_at-3.result c.reply_at-4.result c.reply_at-5.result c.reply_at-6.result c.reply_at-7.result c.reply_at-8.result h.valid
-    (c.reply_at.ensures l r k h x long e) (c.reply_at-2.ensures l r k h x long e) (c.reply_at-3.ensures l r k h x long e) (c.reply_at-4.ensures l r k h x long e) (c.reply_at-5.ensures l r k h x long e) (c.reply_at-6.ensures l r k h x long e) (c.reply_at-7.ensures l r k h x long e) (c.reply_at-8.ensures l r k h x long e)
+returns c = λ l r k h x long e. eight l r k c.from_fn.result h.valid c.from_fn.ensures.items.long
+    (λ i b. each_call _ _ (λ j y. y ≡ code_slot (nth_of (reply k r.delivery) j)) (λ j y q w. search rules) c.from_fn.result 0 8 c.from_fn.ensures.items.each i _ (omega arith) (omega arith))

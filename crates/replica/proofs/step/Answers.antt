@@ -1,54 +1,37 @@
-use Rattle.std.proofs.Common.{◌≡◌, ℕ, ◌+◌, ◌*◌, ◌≤◌, length, sym, refl, ap, ◌∙◌, subst, arith}
-use Rattle.std.proofs.lemmas.List.{length-take-le}
-use Rattle.model.specs.Replica.{refused}
-use Rattle.memory.specs.Layout.{Room, code_limits, total}
-use Rattle.memory.specs.declared.Limits.{Limits}
-use Rattle.logs.specs.State.{Laid}
+use Rattle.std.proofs.Common.{◌≡◌, ◌++◌, take, Err, sym, refl, ap, ◌∙◌, subst, arith}
+use Rattle.std.proofs.lemmas.Result.{err_from_is_err_and}
+use Rattle.memory.specs.Image.{encode}
+use Rattle.memory.specs.Layout.{words}
+use Rattle.memory.specs.Valid.{Valid}
+use Rattle.memory.proofs.Starts.{lent}
+use Rattle.logs.specs.State.{Holds}
 use Rattle.wire.specs.Reading.{read}
-use Rattle.wire.specs.Said.{event}
-use Rattle.replica.specs.Answered.{Stepped, says_in}
-use Rattle.replica.proofs.Steps.{found, no_event, out_of_range, read_legible, steps, words_are}
+use Rattle.calls.proofs.Enters.{same_error}
+use Rattle.calls.proofs.Said.{refused_said}
 use Rattle.replica.proofs.step.Goals as goal
 
-pub returns-in_default : goal.returns-in_default
-returns-in_default c = record {
-  right = λ l r rest all v e. let bad = c.in_default.ensures.image l r rest v e in let z : ◌≡◌ {A = ℕ} 0 1 = cc in absurd (omega arith);
-  foreign = λ f. (c.refused.ensures, refl);
-}
-
-pub returns-in-Err : goal.returns-in-Err
-returns-in-Err c = record {
-  right = λ l r rest all v e. no_event l r rest c.args.mem.now v e _ c.in-Err.refusal.place c.in-Err.refusal.number c.in-Err.ensures.is c.in-Err.ensures.refused;
-  foreign = λ f. absurd (f (subst (λ (x : Limits × ℕ). Room x.0 x.1 c.args.mem.now) c.in-Ok.ensures.any.0 c.in-Ok.ensures.any.1));
-}
-
-pub returns-in_default-in_range : goal.returns-in_default-in_range
-returns-in_default-in_range c = record {
-  right = λ l r rest all v e.
-      let same = found c.in-Ok.limits (code_limits l) c.in-Ok.me r.delivery.me (c.in-Ok.ensures.image l r rest v e) in
-      let bad = c.in_default-in_range.ensures l same.0 c.in-Ok.ensures.any.1.limits in
-      subst (λ a. Stepped l r (read c.args.event.now) rest c.args.mem.now (says_in l.replicas a)) (sym c.refused-in_default-in_range.ensures)
-      (subst (λ x. Stepped l r x rest c.args.mem.now (refused 2 0)) c.in-Ok-read_event.ensures.is
-      (out_of_range l r rest c.args.mem.now v e (event c.in-Ok-read_event.event) all (read_legible c.in-Ok-read_event.event).0 (read_legible c.in-Ok-read_event.event).1 bad));
-  foreign = λ f. absurd (f (subst (λ (x : Limits × ℕ). Room x.0 x.1 c.args.mem.now) c.in-Ok.ensures.any.0 c.in-Ok.ensures.any.1));
-}
-
-pub slice_bounds-act-end : goal.slice_bounds-act-end
-slice_bounds-act-end c = omega (arith, words_are c.in-Ok.limits c.in-Ok.me c.new-at.result c.new-at.ensures.laid, c.in-Ok.ensures.any.1.words)
-
-pub slice_bounds-act-end-2 : goal.slice_bounds-act-end-2
-slice_bounds-act-end-2 c =
-    let within : (512 + 32 * (c.new-at.result.layout.waiting.base + c.new-at.result.layout.waiting.count)) ≤ length c.args.mem.now = omega (arith, words_are c.in-Ok.limits c.in-Ok.me c.new-at.result c.new-at.ensures.laid, c.in-Ok.ensures.any.1.words) in
-    sym (length-take-le (512 + 32 * (c.new-at.result.layout.waiting.base + c.new-at.result.layout.waiting.count)) c.args.mem.now within)
+pub returns-in_err-at : goal.returns-in_err-at
+returns-in_err-at c =
+    let p = err_from_is_err_and c.from_residual.result c.from_residual.ensures.1 in
+    rw (p.1, p.2) (record {
+      right = λ l r rest all v e.
+          let no = refused_said l r (read c.args.event.now) _ (c.in_err-at.ensures.image l r rest all v e) in
+          record { valid = subst (Valid l) (sym no.1) v; mem = e ∙ ap (λ x. encode l x ++ rest) (sym no.1); says = no.0 };
+      foreign = λ f. (ap Err (same_error (c.in_err-at.ensures.foreign f)), refl);
+    })
 
 pub returns : goal.returns
 returns c = record {
   right = λ l r rest all v e.
-      let same = found c.in-Ok.limits (code_limits l) c.in-Ok.me r.delivery.me (c.in-Ok.ensures.image l r rest v e) in
-      let good = c.in-Some.ensures l same.0 c.in-Ok.ensures.any.1.limits in
-      let laid = subst (λ k. Laid l k c.new-at.result) same.1 (c.new-at.ensures.laid l (sym same.0)) in
-      let whole = words_are c.in-Ok.limits c.in-Ok.me c.new-at.result c.new-at.ensures.laid ∙ ap total (sym same.0) in
-      steps l r (event c.in-Ok-read_event.event) (read c.args.event.now) rest c.args.mem.now c.act.new.mem (512 + 32 * (c.new-at.result.layout.waiting.base + c.new-at.result.layout.waiting.count)) (says_in l.replicas c.act.result) c.in-Ok-read_event.ensures.is v e whole
-      (λ h. c.act.ensures l r (event c.in-Ok-read_event.event) h laid all (read_legible c.in-Ok-read_event.event).0 c.in-Ok-read_event.ensures.right.carried good.0 good.1);
-  foreign = λ f. absurd (f (subst (λ (x : Limits × ℕ). Room x.0 x.1 c.args.mem.now) c.in-Ok.ensures.any.0 c.in-Ok.ensures.any.1));
+      let x = c.in_ok-at.ensures.image l r rest all v e in
+      let size : c.words.result ≡ words l = omega (arith, c.words.ensures, x.laid.waiting.0, x.laid.waiting.1) in
+      let parts = lent l r c.args.mem.now rest c.words.result v.fits size e in
+      let before : Holds l r (take c.words.result c.args.mem.now) = record { valid = v; mem = parts.0 } in
+      let after = c.act.ensures.holds l r (read c.args.event.now) before x.laid all x.legible x.carried x.in_range x.event in
+      record {
+        valid = after.valid;
+        mem = (λ i. after.mem i ++ parts.1 i);
+        says = c.act.ensures.says l r (read c.args.event.now) before x.laid all x.legible x.carried x.in_range x.event;
+      };
+  foreign = λ f. absurd (f c.in_ok-at.ensures.room.2);
 }
