@@ -1,7 +1,7 @@
 -- The numbers of a clock in bytes, one after the other.
 use Rattle.std.proofs.Common.{◌≡◌, ℕ, zero, suc, ◌+◌, ◌*◌, ◌<◌, ◌≤◌, Bool, true, false, cond, ◌&&◌, eqb, ltb, leb, List, [], ◌∷◌, ◌++◌, length, get_or, drop, sym, refl, ap, ◌∙◌, add-zero, arith, length-drop, get_or-drop}
 use Rattle.std.proofs.lemmas.List.{drop-drop}
-use Rattle.std.proofs.lemmas.Bool.{le-leb, eq-eqb, lt-leb, lt-ltb, ne_eqb, ltb-true, and_parts}
+use Rattle.std.proofs.lemmas.Bool.{leb-true, cond_both, le-leb, eq-eqb, lt-leb, lt-ltb, ne_eqb, ltb-true, and_parts}
 use Rattle.model.specs.Clock.{Clock}
 use Rattle.model.specs.Program.{word_bound, all_below}
 use Rattle.wire.specs.Bytes.{write_number, write_counts}
@@ -44,6 +44,23 @@ clock_other [] a = refl
 clock_other (x ∷ s) a =
     let q : eqb x 1 ≡ false = ne_eqb x 1 a in
     elim (leb 9 (length (x ∷ s))) as (λ t. cond (t && eqb x 1) (number_in s ∷ counts_in (length s) (drop 8 s)) [] ≡ []) [ true ↦ rw q | false ↦ refl ]
+
+within_fuel : (f : ℕ) (s : List ℕ) → 9 * length (counts_in f s) ≤ length s
+unfolding counts_in
+within_fuel zero s = omega arith
+within_fuel (suc f) s =
+    let rest = within_fuel f (drop 9 s) in
+    cond_both (leb 9 (length s) && eqb (get_or s 0 0) 1) (number_in (drop 1 s) ∷ counts_in f (drop 9 s)) [] (λ c. 9 * length c ≤ length s)
+    (λ h.
+    let long : 9 ≤ length s = leb-true 9 (length s) (and_parts (leb 9 (length s)) (eqb (get_or s 0 0) 1) h).0 in
+    let less = simp length-drop at rest in
+    omega arith)
+    (λ _. omega arith)
+
+-- each count takes nine bytes
+pub clock_within : (s : List ℕ) → 9 * length (clock_in s) ≤ length s
+unfolding clock_in
+clock_within s = within_fuel (length s) s
 
 module _ (s : List ℕ) (at : ℕ) where
   first : get_or (drop at s) 0 0 ≡ get_or s at 0

@@ -1,5 +1,5 @@
 -- Answers and their bytes.
-use Rattle.std.proofs.Common.{◌≡◌, ℕ, zero, suc, ◌+◌, ◌*◌, ◌<◌, ◌≤◌, true, false, ◌&&◌, eqb, ltb, leb, List, [], ◌∷◌, ◌++◌, length, get_or, take, drop, Some, None, Option, sym, refl, ap, ◌∙◌, arith, length-append, length-drop}
+use Rattle.std.proofs.Common.{◌≡◌, ℕ, zero, suc, ◌+◌, ◌*◌, ◌<◌, ◌≤◌, true, false, ◌&&◌, eqb, ltb, leb, List, [], ◌∷◌, ◌++◌, length, get_or, take, drop, Some, None, Option, sym, refl, ap, ◌∙◌, subst, arith, length-append, length-drop}
 use Rattle.std.proofs.lemmas.List.{append_assoc, take_at, drop_at}
 use Rattle.std.proofs.lemmas.Bool.{le-leb, le-ltb, leb-true, ltb-true, and_parts, cond_both}
 use Rattle.model.specs.Clock.{Clock}
@@ -36,6 +36,15 @@ shorter s =
     let enough = leb-true 9 (length s) (and_parts (leb 9 (length s)) (eqb (get_or s 0 0) 1) h).0 in
     cond_both (leb n (length r)) _ _ (Shorter (length s)) (λ _. more_shorter (length s) (drop n r) (read_put (take n r)) (simp length-drop (omega arith))) (λ _. tt))
     (λ _. tt))
+
+-- what follows the next put is shorter
+pub rest_shorter : (s t : List ℕ) (p : Put Body) → Some (more p t) ≡ next_put s → length t < length s
+rest_shorter s t p e = subst (Shorter (length s)) (sym e) (shorter s)
+
+-- an end is one
+pub next_end : next_put (0 ∷ []) ≡ Some end
+unfolding next_put
+next_end = refl
 
 go_same : (f g : List ℕ → Option (List (Put Body))) (k : ℕ) → ((t : List ℕ) → length t < k → f t ≡ g t) → (o : Option Next) → Shorter k o → go_on f o ≡ go_on g o
 go_same f g k same (Some end) h = refl

@@ -1,62 +1,15 @@
 // Answers from their bytes.
-ghost use Rattle.wire.specs.Answers.{clock_answer, framed, next_put as next_put_in, puts_in, read_answer, refused_answer, value_answer};
+ghost use Rattle.wire.specs.Answers.{clock_answer, puts_in, read_answer, refused_answer, value_answer};
 ghost use Rattle.wire.specs.Reading.{clock_size};
-ghost use Rattle.wire.specs.Said.{answer as answer_of, next};
+ghost use Rattle.wire.specs.Said.{answer as answer_of};
 ghost use Rattle.wire.specs.Theorems.{AnswerRight};
 ghost use Rattle.std.specs.Prelude.{◌≡◌};
 
-use crate::answer::{Answer, Next, PutsBytes};
+use crate::answer::{Answer, PutsBytes};
 use crate::event::{ClockBytes, Refusal};
+use crate::kind::AnswerKind;
 use crate::number::{number, rest};
-use crate::parts::{read_clock, read_put};
-
-impl<'a> PutsBytes<'a> {
-    // The next put and those after it, or the end; none if the bytes are no puts.
-    pub fn next(self) -> Option<Next<'a>>
-        ensures { next result ≡ next_put_in self.entry.bytes.now }
-    {
-        next_put(self.bytes)
-    }
-}
-
-fn next_put(bytes: &[u8]) -> Option<Next<'_>>
-    ensures { next result ≡ next_put_in bytes.now }
-{
-    let [marker, ..] = bytes else {
-        return None;
-    };
-    if *marker == 0 {
-        return if bytes.len() == 1 {
-            Some(Next::End)
-        } else {
-            None
-        };
-    }
-    if *marker != 1 {
-        return None;
-    }
-    let Some(size) = number(rest(bytes, 1)) else {
-        return None;
-    };
-    put_of(size, rest(bytes, 9))
-}
-
-// The put of so many bytes, and those that follow.
-fn put_of(size: u64, bytes: &[u8]) -> Option<Next<'_>>
-    ensures { next result ≡ framed size bytes.now }
-{
-    if size > bytes.len() as u64 {
-        return None;
-    }
-    let (put, after) = bytes.split_at(size as usize);
-    match read_put(put) {
-        Ok(put) => Some(Next::More {
-            put,
-            rest: PutsBytes { bytes: after },
-        }),
-        Err(_) => None,
-    }
-}
+use crate::parts::{read_clock, read_end};
 
 fn refused(bytes: &[u8]) -> Option<Answer<'_>>
     ensures { answer_of result ≡ refused_answer bytes.now }
@@ -64,77 +17,59 @@ fn refused(bytes: &[u8]) -> Option<Answer<'_>>
     if bytes.len() != 16 {
         return None;
     }
-    let Some(number_of) = number(bytes) else {
-        return None;
+    let refusal = Refusal {
+        number: number(bytes)?,
+        place: number(rest(bytes, 8))?,
     };
-    let Some(place) = number(rest(bytes, 8)) else {
-        return None;
-    };
-    Some(Answer::Refused {
-        refusal: Refusal {
-            number: number_of,
-            place,
-        },
-    })
+    Some(Answer::Refused { refusal })
 }
 
-fn value(bytes: &[u8]) -> Option<Answer<'_>>
-    ensures { answer_of result ≡ value_answer (puts_in bytes.now) }
+// None or one.
+#[tactic(auto, using(crate::proofs::Puts::value_none, crate::proofs::Puts::value_no, crate::proofs::Puts::value_one, crate::proofs::Puts::value_broken, crate::proofs::Puts::value_two))]
+fn value(puts: PutsBytes<'_>) -> Option<Answer<'_>>
+    ensures { answer_of result ≡ value_answer (puts_in puts.entry.bytes.now) }
 {
-    match next_put(bytes) {
-        Some(Next::End) => Some(Answer::Value { put: None }),
-        Some(Next::More { put, rest }) => match next_put(rest.bytes) {
-            Some(Next::End) => Some(Answer::Value { put: Some(put) }),
-            Some(
-                Next::More {
-                    put: _second,
-                    rest: _others,
-                },
-            ) => None,
-            None => None,
-        },
-        None => None,
+    let mut puts = puts.into_iter();
+    let Some(put) = puts.next() else {
+        return Some(Answer::Value { put: None });
+    };
+    let put = put.ok()?;
+    match puts.next() {
+        None => Some(Answer::Value { put: Some(put) }),
+        Some(_) => None,
     }
 }
 
 fn clock(bytes: &[u8]) -> Option<Answer<'_>>
     ensures { answer_of result ≡ clock_answer bytes.now (clock_size bytes.now) }
 {
-    match read_clock(bytes) {
-        Ok(size) => {
-            if size < bytes.len() {
-                return None;
-            }
-            Some(Answer::Clock {
-                clock: ClockBytes { bytes },
-            })
-        }
-        Err(_) => None,
-    }
+    let size = read_clock(bytes).ok()?;
+    read_end(bytes, size).ok()?;
+    Some(Answer::Clock {
+        clock: ClockBytes { bytes },
+    })
 }
 
-// The answer that the bytes are, or none. The puts of an answer are read one after the other, by `next`.
+// The answer that the bytes are, or none. The puts of an answer are read one after the other, in a loop over them.
+#[tactic(auto, using(crate::proofs::Numbers::bytes_each, crate::proofs::Exact::answer_right))]
 pub fn read_answer(bytes: &[u8]) -> Option<Answer<'_>>
     ensures is { answer_of result ≡ read_answer bytes.now }
     ensures right { AnswerRight bytes.now (answer_of result) }
 {
-    by_number(bytes)
+    by_kind(bytes)
 }
 
-fn by_number(bytes: &[u8]) -> Option<Answer<'_>>
+#[tactic(auto, unfolding(crate::specs::Answers::read_answer))]
+fn by_kind(bytes: &[u8]) -> Option<Answer<'_>>
     ensures { answer_of result ≡ read_answer bytes.now }
 {
-    let [tag, ..] = bytes else {
-        return None;
-    };
-    let parts = rest(bytes, 1);
-    match *tag {
-        0 => refused(parts),
-        1 => Some(Answer::Puts {
+    let (number, parts) = bytes.split_first()?;
+    match AnswerKind::try_from(*number).ok()? {
+        AnswerKind::Refused => refused(parts),
+        AnswerKind::Puts => Some(Answer::Puts {
             puts: PutsBytes { bytes: parts },
         }),
-        2 => value(parts),
-        3 => clock(parts),
-        _ => None,
+        AnswerKind::Value => value(PutsBytes { bytes: parts }),
+        AnswerKind::Clock => clock(parts),
     }
 }

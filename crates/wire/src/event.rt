@@ -12,6 +12,3 @@ pub type PutBytes<'a> = event::Put<ClockBytes<'a>, &'a [u8]>;
 pub type Event<'a> = event::Event<ClockBytes<'a>, &'a [u8]>;
 
 pub use puts::event::Refusal;
-
-// Bytes that are no event.
-pub const NO_EVENT: u64 = 1;

@@ -5,6 +5,8 @@ pub mod answer;
 pub mod answers;
 pub mod clock;
 pub mod event;
+pub mod garbled;
+pub mod kind;
 pub mod number;
 pub mod parts;
 pub mod read;

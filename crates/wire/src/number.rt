@@ -11,6 +11,7 @@ pub(crate) fn rest(bytes: &[u8], at: usize) -> &[u8]
 }
 
 // The number that the bytes begin with.
+#[tactic(auto, unfolding(crate::specs::Reading::number_in))]
 pub fn number(bytes: &[u8]) -> Option<u64>
     ensures { MatchOption result (length bytes.now < 8) (λ n. (8 ≤ length bytes.now) × (n ≡ number_in bytes.now)) }
 {

@@ -1,77 +1,83 @@
 // The parts of events, each read from the beginning of its bytes.
 ghost use Rattle.std.specs.Prelude.{◌≡◌, ◌≤◌, length, MatchResult};
-ghost use Rattle.wire.specs.Reading.{clock_size, read_body as body_read, read_put as put_read, span as span_of};
+ghost use Rattle.wire.specs.Reading.{clock_size, last, number_in, reach, read_body as body_read, read_put as put_read, span as span_of, whole};
 ghost use Rattle.wire.specs.Said.{Within, body as body_of, part, put_of};
 
 use crate::event::{ClockBytes, PutBytes};
+use crate::garbled::Garbled;
 use crate::number::{number, rest};
 
 // How many bytes the counts of a clock take, a 1 before each.
+#[tactic(auto, unfolding(crate::specs::Reading::span))]
 pub fn span(bytes: &[u8]) -> usize
     ensures is { result ≡ span_of bytes.now }
     ensures within { result ≤ length bytes.now }
 {
-    let mut at = 0;
-    while bytes.len() - at >= 9 && bytes[at] == 1 {
-        at += 9;
-    }
-    at
+    9 * ClockBytes { bytes }.how_many()
 }
 
 // How many bytes a clock takes with its end, or the place where it ceases to be one.
-pub fn read_clock(bytes: &[u8]) -> Result<usize, usize>
+#[tactic(auto, unfolding(crate::specs::Reading::clock_size))]
+pub fn read_clock(bytes: &[u8]) -> Result<usize, Garbled>
     ensures is { part (λ n. n) result ≡ clock_size bytes.now }
-    ensures within { MatchResult result (λ n. n ≤ length bytes.now) (λ n. n ≤ length bytes.now) }
+    ensures within { MatchResult result (λ n. n ≤ length bytes.now) (λ g. g.place ≤ length bytes.now) }
 {
     let end = span(bytes);
-    if end >= bytes.len() {
-        return Err(bytes.len());
+    match bytes.get(end) {
+        Some(0) => Ok(end + 1),
+        Some(1) | None => Err(Garbled { place: bytes.len() }),
+        Some(_) => Err(Garbled { place: end }),
     }
-    match bytes[end] {
-        0 => Ok(end + 1),
-        1 => Err(bytes.len()),
-        _ => Err(end),
+}
+
+// The number that the bytes begin with.
+pub(crate) fn read_number(bytes: &[u8]) -> Result<u64, Garbled>
+    ensures is { part (λ n. n) result ≡ reach bytes.now 8 (whole (number_in bytes.now)) }
+    ensures enough { MatchResult result (λ n. 8 ≤ length bytes.now) (λ g. g.place ≤ length bytes.now) }
+{
+    number(bytes).ok_or(Garbled { place: bytes.len() })
+}
+
+// Nothing is left over after `end` bytes.
+pub(crate) fn read_end(bytes: &[u8], end: usize) -> Result<(), Garbled>
+    ensures is { part (λ u. u) result ≡ last bytes.now end (whole tt) }
+    ensures within { Within result bytes.now }
+{
+    if bytes.len() > end {
+        return Err(Garbled { place: end });
     }
+    Ok(())
 }
 
 // The key and the value that the bytes are.
-pub fn read_body(bytes: &[u8]) -> Result<(u64, &[u8]), usize>
+#[tactic(auto, unfolding(crate::specs::Reading::read_body))]
+pub fn read_body(bytes: &[u8]) -> Result<(u64, &[u8]), Garbled>
     ensures is { part body_of result ≡ body_read bytes.now }
     ensures within { Within result bytes.now }
 {
-    let [form, ..] = bytes else {
-        return Err(0);
+    let [0, parts @ ..] = bytes else {
+        return Err(Garbled { place: 0 });
     };
-    if *form != 0 {
-        return Err(0);
-    }
-    let Some(key) = number(rest(bytes, 1)) else {
-        return Err(bytes.len());
-    };
-    Ok((key, rest(bytes, 9)))
+    let key = read_number(parts).map_err(|garbled| garbled.after(1))?;
+    Ok((key, rest(parts, 8)))
 }
 
 // The put that the bytes are.
-pub fn read_put(bytes: &[u8]) -> Result<PutBytes<'_>, usize>
+#[tactic(auto, unfolding(crate::specs::Reading::read_put))]
+pub fn read_put(bytes: &[u8]) -> Result<PutBytes<'_>, Garbled>
     ensures is { part put_of result ≡ put_read bytes.now }
     ensures within { Within result bytes.now }
 {
-    let Some(from) = number(bytes) else {
-        return Err(bytes.len());
-    };
+    let from = read_number(bytes)?;
     let seen = ClockBytes {
         bytes: rest(bytes, 8),
     };
-    match read_clock(seen.bytes) {
-        Ok(size) => match read_body(rest(bytes, 8 + size)) {
-            Ok((key, value)) => Ok(PutBytes {
-                from,
-                seen,
-                key,
-                value,
-            }),
-            Err(place) => Err(8 + size + place),
-        },
-        Err(place) => Err(8 + place),
-    }
+    let size = read_clock(seen.bytes).map_err(|garbled| garbled.after(8))?;
+    let (key, value) = read_body(rest(bytes, 8 + size)).map_err(|garbled| garbled.after(8 + size))?;
+    Ok(PutBytes {
+        from,
+        seen,
+        key,
+        value,
+    })
 }

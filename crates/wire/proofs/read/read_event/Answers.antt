@@ -5,6 +5,6 @@ use Rattle.wire.proofs.read.read_event.Goals as goal
 
 pub returns : goal.returns
 returns c =
-    let is = c.by_number.ensures.is in
+    let is = c.by_kind.ensures in
     let all = bytes_each c.args.bytes.now (λ i. omega (arith, c.type_inv.bytes i)) in
-    record { is = is; refused = c.by_number.ensures.refused; right = reads_right _ _ all (omega arith) is; bytes = all }
+    record { is = is; right = reads_right _ _ all (omega arith) is; bytes = all }

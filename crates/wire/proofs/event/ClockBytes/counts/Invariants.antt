@@ -1,6 +1,10 @@
-use Rattle.std.proofs.Common.{◌≡◌, ◌-◌, ◌++◌, length, take, replicate}
+use Rattle.std.proofs.Common.{◌≡◌, ℕ, ◌-◌, ◌≤◌, List, ◌++◌, length, take, drop, replicate}
 use Rattle.wire.specs.Reading.{clock_in}
+use Rattle.wire.specs.Said.{counts_left}
 use Rattle.wire.proofs.event.ClockBytes.counts.Given as goal
 
 abbrev pub invariant-loop-i : goal.invariant-loop-i
-invariant-loop-i l = (length l.counts ≡ 16) × (l.counts ≡ take l.i (clock_in l.bytes) ++ replicate (16 - l.i) 0)
+invariant-loop-i l =
+    let c : List ℕ = clock_in l.self.bytes.now in
+    let i : ℕ = l.i-iterator.count in
+    record { left : drop i c ≡ counts_left l.i-iterator.iter; within : i ≤ length c; counts : l.counts ≡ take i c ++ replicate (16 - i) 0 }
