@@ -5,6 +5,7 @@ ghost use Rattle.wire.specs.Answers.{framed, next_put as next_put_in};
 ghost use Rattle.wire.specs.Said.{NextPut, bytes_left, next, put_next, steps_left};
 
 use crate::event::{ClockBytes, PutBytes};
+use crate::mark::{END, NEXT};
 use crate::number::{number, rest};
 use crate::parts::read_put;
 use puts::event;
@@ -78,8 +79,8 @@ fn next_put(bytes: &[u8]) -> Result<Option<(PutBytes<'_>, &[u8])>, NoPuts>
     ensures { next result ≡ next_put_in bytes.now }
 {
     match bytes {
-        [0] => Ok(None),
-        [1, item @ ..] => {
+        [END] => Ok(None),
+        [NEXT, item @ ..] => {
             let size = number(item).ok_or(NoPuts)?;
             Ok(Some(put_of(size, rest(item, 8))?))
         }

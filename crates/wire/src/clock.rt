@@ -5,6 +5,7 @@ ghost use Rattle.wire.specs.Reading.{clock_in};
 ghost use Rattle.wire.specs.Said.{counts_left, Counted};
 
 use crate::event::ClockBytes;
+use crate::mark::NEXT;
 use crate::number::{number, rest};
 
 // A clock has at most so many counts.
@@ -23,11 +24,10 @@ impl Iterator for Counts<'_> {
 
     ghost remaining = { item_count counts_left };
 
-    // A count has a 1 before it.
     #[tactic(auto, using(crate::proofs::Entries::clock_next, crate::proofs::Clocks::clock_short, crate::proofs::Clocks::clock_other))]
     fn next(&mut self) -> Option<u64> {
         let (marker, count) = self.bytes.split_first()?;
-        if *marker != 1 {
+        if *marker != NEXT {
             return None;
         }
         let n = number(count)?;

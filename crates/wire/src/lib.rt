@@ -7,6 +7,7 @@ pub mod clock;
 pub mod event;
 pub mod garbled;
 pub mod kind;
+pub mod mark;
 pub mod number;
 pub mod parts;
 pub mod read;

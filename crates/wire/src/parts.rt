@@ -5,6 +5,7 @@ ghost use Rattle.wire.specs.Said.{Within, body as body_of, part, put_of};
 
 use crate::event::{ClockBytes, PutBytes};
 use crate::garbled::Garbled;
+use crate::mark::{END, FORM, NEXT};
 use crate::number::{number, rest};
 
 // How many bytes the counts of a clock take, a 1 before each.
@@ -24,8 +25,8 @@ pub fn read_clock(bytes: &[u8]) -> Result<usize, Garbled>
 {
     let end = span(bytes);
     match bytes.get(end) {
-        Some(0) => Ok(end + 1),
-        Some(1) | None => Err(Garbled { place: bytes.len() }),
+        Some(&END) => Ok(end + 1),
+        Some(&NEXT) | None => Err(Garbled { place: bytes.len() }),
         Some(_) => Err(Garbled { place: end }),
     }
 }
@@ -55,7 +56,7 @@ pub fn read_body(bytes: &[u8]) -> Result<(u64, &[u8]), Garbled>
     ensures is { part body_of result ≡ body_read bytes.now }
     ensures within { Within result bytes.now }
 {
-    let [0, parts @ ..] = bytes else {
+    let [FORM, parts @ ..] = bytes else {
         return Err(Garbled { place: 0 });
     };
     let key = read_number(parts).map_err(|garbled| garbled.after(1))?;

@@ -1,7 +1,8 @@
 -- One write after another is one write.
-use Rattle.std.proofs.Common.{◌≡◌, ℕ, ◌+◌, ◌≤◌, List, [], ◌++◌, length, take, drop, sym, ap, ◌∙◌, subst, append_assoc, add-zero, arith, length-append}
+use Rattle.std.proofs.Common.{◌≡◌, ℕ, ◌+◌, ◌≤◌, List, [], ◌++◌, length, take, drop, sym, refl, ap, ◌∙◌, subst, append_assoc, add-zero, arith, length-append, length-drop}
 use Rattle.std.proofs.lemmas.List.{length-take-le, take_at, drop_at, drop-drop, take-append-drop}
-use Rattle.wire_out.specs.Written.{over, Wrote}
+use Rattle.wire_out.specs.declared.writer.Writer.{Writer}
+use Rattle.wire_out.specs.Written.{over, Wrote, Adds}
 
 place : (w v : List ℕ) (at : ℕ) → at + length w + length v ≡ at + length (w ++ v)
 place w v at = simp length-append (omega arith)
@@ -33,5 +34,25 @@ pub wrote_first : {s t w : List ℕ} {r : ℕ} → Wrote r 0 s t w → (r ≡ le
 unfolding over
 wrote_first {s} {t} {w} {r} a = let e : r ≡ length w = omega arith in (e, a.bytes ∙ ap (λ n. w ++ drop n s) (sym a.end))
 
-pub wrote_as : {s t w v : List ℕ} {at r : ℕ} → Wrote r at s t w → w ≡ v → Wrote r at s t v
-wrote_as {s} {t} {w} {v} {at} {r} a e = subst (λ x. Wrote r at s t x) e a
+-- BY A WRITER: a part
+pub adds : (p q : Writer) (w : List ℕ) → q.out.ghost_name ≡ p.out.ghost_name → q.at ≡ p.at + length w → q.at ≤ length p.out.now → q.out.now ≡ over p.out.now p.at w → Adds p q w
+unfolding over
+adds p q w n e l b =
+    let front : length (take p.at p.out.now) ≡ p.at = length-take-le p.at p.out.now (omega arith) in
+    let long : length (over p.out.now p.at w) ≡ length p.out.now = simp (length-append, length-drop) (omega arith) in
+    record { same = n; wrote = record { end = e; bytes = b }; within = l; long = ap length b ∙ long }
+
+-- nothing
+pub adds_nothing : (p : Writer) → p.at ≤ length p.out.now → Adds p p []
+adds_nothing p h = record { same = refl; wrote = wrote_nothing p.out.now p.at; within = h; long = refl }
+
+-- w, and then v after it
+pub then_adds : {p q r : Writer} {w v : List ℕ} → Adds p q w → Adds q r v → Adds p r (w ++ v)
+then_adds {p} {q} {r} {w} {v} a b = record { same = b.same ∙ a.same; wrote = then_wrote a.wrote b.wrote (omega (arith, a.wrote.end)); within = omega arith; long = b.long ∙ a.long }
+
+-- from the beginning on
+pub adds_first : {p q : Writer} {w : List ℕ} → Adds p q w → p.at ≡ 0 → (q.at ≡ length w) × (q.out.now ≡ w ++ drop q.at p.out.now)
+adds_first {p} {q} {w} a e = wrote_first (subst (λ n. Wrote q.at n p.out.now q.out.now w) e a.wrote)
+
+pub adds_as : {p q : Writer} {w v : List ℕ} → Adds p q w → w ≡ v → Adds p q v
+adds_as {p} {q} {w} {v} a e = subst (λ x. Adds p q x) e a

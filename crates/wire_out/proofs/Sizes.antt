@@ -1,5 +1,5 @@
 -- How many bytes parts take.
-use Rattle.std.proofs.Common.{◌≡◌, ℕ, zero, suc, ◌+◌, ◌<◌, ◌≤◌, List, [], ◌∷◌, ◌++◌, map, length, get_or, take, sym, refl, ap, ◌∙◌, arith, length-append}
+use Rattle.std.proofs.Common.{◌≡◌, ℕ, zero, suc, ◌+◌, ◌<◌, ◌≤◌, List, [], ◌∷◌, ◌++◌, map, fold, length, get_or, take, sym, refl, ap, ◌∙◌, arith, length-append}
 use Rattle.std.specs.List.{flat_map}
 use Rattle.std.proofs.lemmas.List.{append_assoc, take_more, flat_map_more, length_push}
 use Rattle.model.specs.Put as put
@@ -17,15 +17,6 @@ pub room : {X : Type 0} (f : X → List ℕ) (xs : List X) (i : ℕ) (d : X) →
 room f [] i d h = absurd (omega arith)
 room f (x ∷ xs) zero d h = simp length-append (omega arith)
 room f (x ∷ xs) (suc i) d h = let more = room f xs i d (omega arith) in simp length-append (omega arith)
-
-pub joined_front : {X : Type 0} (f : X → List ℕ) (xs : List X) (i : ℕ) → length (flat_map f (take i xs)) ≤ length (flat_map f xs)
-joined_front f xs zero = omega arith
-joined_front f [] (suc i) = omega arith
-joined_front f (x ∷ xs) (suc i) = let more = joined_front f xs i in simp length-append (omega arith)
-
--- one more length, before the end's
-pub capped_next : (n len r : ℕ) (s t : List ℕ) → n ≡ capped (length t) → len ≡ capped (suc (length s)) → r ≡ capped (n + len) → r ≡ capped (suc (length (s ++ t)))
-capped_next n len r s t a b e = simp length-append (omega arith)
 
 -- puts are their items and the end
 pub puts_parts : (ps : List (put.Put put.Body)) → write_puts ps ≡ flat_map write_item ps ++ (0 ∷ [])
@@ -46,7 +37,12 @@ length_items ps = ap length (puts_items ps) ∙ length_push (flat_map item ps) 0
 pub room_next : (at to m : ℕ) (ps : List Put) (i : ℕ) (d : Put) → i < length ps → to ≡ at + length (flat_map item (take i ps)) → at + length (write_puts (map put_of ps)) ≤ m → to + length (item (get_or ps i d)) ≤ m
 room_next at to m ps i d h e l = omega (arith, length_items ps, room item ps i d h)
 
--- one put and the end
-pub length_one : (p : Put) → length (write_puts (put_of p ∷ [])) ≡ suc (length (item p))
-unfolding write_puts
-length_one p = length_push (item p) 0 ∙ omega arith
+-- the lengths of puts, one after the other
+folded_from : (n : ℕ) (ps : List Put) → fold (λ m p. capped (capped (length (item p)) + m)) (capped n) ps ≡ capped (n + length (flat_map item ps))
+folded_from n [] = ap capped (omega arith)
+folded_from n (p ∷ ps) =
+    let next : capped (capped (length (item p)) + capped n) ≡ capped (n + length (item p)) = omega arith in
+    ap (λ m. fold (λ k q. capped (capped (length (item q)) + k)) m ps) next ∙ folded_from (n + length (item p)) ps ∙ ap capped (simp length-append (omega arith))
+
+pub puts_folded : (ps : List Put) → fold (λ m p. capped (capped (length (item p)) + m)) 1 ps ≡ capped (length (write_puts (map put_of ps)))
+puts_folded ps = folded_from 1 ps ∙ ap capped (omega (arith, length_items ps))

@@ -1,5 +1,6 @@
 -- Bytes written over others. Definitions only.
 use Rattle.std.specs.Prelude.{◌≡◌, ℕ, ◌+◌, ◌<◌, ◌≤◌, min, List, ◌++◌, length, take, drop, Option, MatchOption}
+use Rattle.wire_out.specs.declared.writer.Writer.{Writer}
 
 -- s with w over it, from at on
 unfoldable pub over : List ℕ → ℕ → List ℕ → List ℕ
@@ -9,6 +10,17 @@ over s at w = take at s ++ (w ++ drop (at + length w) s)
 pub record Wrote (r at : ℕ) (before after w : List ℕ) : Type 0 where
   pub end : r ≡ at + length w
   pub bytes : after ≡ over before at w
+
+-- n more bytes fit
+abbrev pub HasRoom : Writer → ℕ → Type 0
+HasRoom p n = p.at + n ≤ length p.out.now
+
+-- w was written by p, which q is afterwards, over the same slice
+pub record Adds (p q : Writer) (w : List ℕ) : Type 0 where
+  pub same : q.out.ghost_name ≡ p.out.ghost_name
+  pub wrote : Wrote q.at p.at p.out.now q.out.now w
+  pub within : q.at ≤ length p.out.now
+  pub long : length q.out.now ≡ length p.out.now
 
 -- w was written from at on; or there is no room for it, and nothing was
 abbrev pub Appended : Option ℕ → ℕ → List ℕ → List ℕ → List ℕ → Type 0

@@ -1,14 +1,16 @@
 // Answers, each written into a lent slice: none if there is no room, and then it is as before; else how many bytes.
-ghost use Rattle.std.specs.Prelude.{◌≡◌, ◌+◌, ◌≤◌, [], ◌∷◌, map, length};
+ghost use Rattle.std.specs.Prelude.{◌≡◌, [], ◌∷◌, map, length};
 ghost use Rattle.model.specs.Replica.{clock_is, puts as puts_of, refused, value as value_of};
-ghost use Rattle.wire.specs.Bytes.{write_answer as answer_written, write_puts as puts_written, write_item};
+ghost use Rattle.wire.specs.Bytes.{write_answer as answer_written, write_item, write_puts as puts_written};
+ghost use Rattle.wire.specs.Kinds.{answer_number};
 ghost use Rattle.wire_out.specs.Said.{answer as answer_of, none_or_one, put_of};
-ghost use Rattle.wire_out.specs.Written.{Appended, Written, Wrote, capped};
+ghost use Rattle.wire_out.specs.Written.{Appended, Written, capped};
 
 use crate::answer::{Answer, Put};
-use crate::lengths::{clock_len, put_len, puts_len, value_len};
-use crate::part::{put_bytes, put_clock, put_number, put_put};
+use crate::lengths::{clock_len, item_len, puts_len, value_len};
+use crate::writer::Writer;
 use wire::event::Refusal;
+use wire::kind::AnswerKind;
 
 // How many bytes an answer takes; the largest number, if it takes more.
 pub fn answer_len(answer: Answer<'_>) -> usize
@@ -36,22 +38,29 @@ pub fn write_answer(out: &mut [u8], answer: Answer<'_>) -> Option<usize>
 pub fn write_refused(out: &mut [u8], refusal: Refusal) -> Option<usize>
     ensures { Written result out.old out.new (answer_written (refused refusal.number refusal.place)) }
 {
-    if out.len() < 17 {
-        return None;
-    }
-    let tag = put_bytes(out, 0, &[0]);
-    let number = put_number(out, tag, refusal.number);
-    Some(put_number(out, number, refusal.place))
+    let mut to = Writer { out, at: 0 };
+    to.room(17)?;
+    to.byte(AnswerKind::Refused.number());
+    to.number(refusal.number);
+    to.number(refusal.place);
+    Some(to.at)
+}
+
+// Puts as an answer of a kind.
+fn write_all(out: &mut [u8], kind: AnswerKind, puts: &[Put<'_>]) -> Option<usize>
+    ensures { Written result out.old out.new (answer_number kind ∷ puts_written (map put_of puts.now)) }
+{
+    let mut to = Writer { out, at: 0 };
+    to.room(puts_len(puts).saturating_add(1))?;
+    to.byte(kind.number());
+    to.puts(puts);
+    Some(to.at)
 }
 
 pub fn write_puts(out: &mut [u8], puts: &[Put<'_>]) -> Option<usize>
     ensures { Written result out.old out.new (answer_written (puts_of (map put_of puts.now))) }
 {
-    if out.len() <= puts_len(puts) {
-        return None;
-    }
-    let tag = put_bytes(out, 0, &[1]);
-    Some(put_items(out, tag, puts))
+    write_all(out, AnswerKind::Puts, puts)
 }
 
 // What stands at a key: none or one.
@@ -67,81 +76,49 @@ pub fn write_value(out: &mut [u8], put: Option<Put<'_>>) -> Option<usize>
 pub fn write_none(out: &mut [u8]) -> Option<usize>
     ensures { Written result out.old out.new (answer_written (value_of [])) }
 {
-    if out.len() < 2 {
-        return None;
-    }
-    Some(put_bytes(out, 0, &[2, 0]))
+    write_all(out, AnswerKind::Value, &[])
 }
 
 pub fn write_one(out: &mut [u8], put: Put<'_>) -> Option<usize>
     ensures { Written result out.old out.new (answer_written (value_of (put_of put.entry ∷ []))) }
 {
-    if out.len() <= put_len(put).saturating_add(10) {
-        return None;
-    }
-    let tag = put_bytes(out, 0, &[2]);
-    let one = put_item(out, tag, put);
-    Some(put_bytes(out, one, &[0]))
+    write_all(out, AnswerKind::Value, &[put])
 }
 
 pub fn write_clock(out: &mut [u8], clock: &[u64]) -> Option<usize>
     ensures { Written result out.old out.new (answer_written (clock_is clock.now)) }
 {
-    if out.len() <= clock_len(clock) {
-        return None;
-    }
-    let tag = put_bytes(out, 0, &[3]);
-    Some(put_clock(out, tag, clock))
+    let mut to = Writer { out, at: 0 };
+    to.room(clock_len(clock).saturating_add(1))?;
+    to.byte(AnswerKind::Clock.number());
+    to.clock(clock);
+    Some(to.at)
 }
 
 // PUTS ONE AFTER THE OTHER: each call gives the place where the next begins; none if there is no room, and then the slice is as before.
 pub fn begin_puts(out: &mut [u8]) -> Option<usize>
     ensures { Appended result 0 out.old out.new (1 ∷ []) }
 {
-    if out.len() < 1 {
-        return None;
-    }
-    Some(put_bytes(out, 0, &[1]))
+    let mut to = Writer { out, at: 0 };
+    to.room(1)?;
+    to.byte(AnswerKind::Puts.number());
+    Some(to.at)
 }
 
 pub fn add_put(out: &mut [u8], at: usize, put: Put<'_>) -> Option<usize>
     ensures { Appended result at out.old out.new (write_item (put_of put.entry)) }
 {
-    if at > out.len() {
-        return None;
-    }
-    if out.len() - at <= put_len(put).saturating_add(8) {
-        return None;
-    }
-    Some(put_item(out, at, put))
+    let mut to = Writer { out, at };
+    to.room(item_len(put))?;
+    to.item(put);
+    Some(to.at)
 }
 
 pub fn end_puts(out: &mut [u8], at: usize) -> Option<usize>
     ensures { Appended result at out.old out.new (0 ∷ []) }
 {
-    if at >= out.len() {
-        return None;
-    }
-    Some(put_bytes(out, at, &[0]))
-}
-
-// A put among others, where there is room: a 1, how many bytes it has, and these.
-pub fn put_item(out: &mut [u8], at: usize, put: Put<'_>) -> usize
-    requires { at + length (write_item (put_of put)) ≤ length out.old }
-    ensures { Wrote result at out.old out.new (write_item (put_of put.entry)) }
-{
-    let mark = put_bytes(out, at, &[1]);
-    let size = put_number(out, mark, put_len(put) as u64);
-    put_put(out, size, put)
-}
-
-fn put_items(out: &mut [u8], at: usize, puts: &[Put<'_>]) -> usize
-    requires { at + length (puts_written (map put_of puts.now)) ≤ length out.old }
-    ensures { Wrote result at out.old out.new (puts_written (map put_of puts.now)) }
-{
-    let mut to = at;
-    for put in puts {
-        to = put_item(out, to, *put);
-    }
-    put_bytes(out, to, &[0])
+    let mut to = Writer { out, at };
+    to.room(1)?;
+    to.end();
+    Some(to.at)
 }

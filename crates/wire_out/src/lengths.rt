@@ -8,6 +8,7 @@ ghost use Rattle.std.specs.Prelude.{◌≡◌, ◌+◌, [], map, length};
 
 use crate::answer::Put;
 
+#[tactic(auto, using(wire::proofs::Views::length_clock))]
 pub(crate) fn clock_len(counts: &[u64]) -> usize
     ensures { result ≡ capped (length (write_clock counts.now [])) }
 {
@@ -21,6 +22,7 @@ pub(crate) fn body_len(value: &[u8]) -> usize
     value.len().saturating_add(9)
 }
 
+#[tactic(auto, using(wire::proofs::Views::length_clock, wire::proofs::Views::length_put))]
 pub(crate) fn put_len(put: Put<'_>) -> usize
     ensures { result ≡ capped (length (write_put (put_of put.entry))) }
 {
@@ -36,22 +38,17 @@ pub fn item_len(put: Put<'_>) -> usize
     put_len(put).saturating_add(9)
 }
 
+// Puts and their end.
 pub(crate) fn puts_len(puts: &[Put<'_>]) -> usize
     ensures { result ≡ capped (length (write_puts (map put_of puts.now))) }
 {
-    let mut len = 1;
-    for put in puts {
-        len = item_len(*put).saturating_add(len);
-    }
-    len
+    puts.iter()
+        .fold(1, |len, put| item_len(*put).saturating_add(len))
 }
 
 // An answer of none or one.
 pub(crate) fn value_len(put: Option<Put<'_>>) -> usize
     ensures { result ≡ capped (length (write_answer (value (none_or_one put.entry)))) }
 {
-    match put {
-        None => 2,
-        Some(put) => item_len(put).saturating_add(2),
-    }
+    puts_len(put.as_slice()).saturating_add(1)
 }

@@ -5,5 +5,5 @@ pub mod answer;
 pub mod answers;
 pub mod event;
 pub mod lengths;
-pub mod part;
 pub mod theorems;
+pub mod writer;

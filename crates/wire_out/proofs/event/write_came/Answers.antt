@@ -1,6 +1,6 @@
-use Rattle.std.proofs.Common.{arith}
-use Rattle.wire_out.proofs.Overs.{then_wrote, wrote_first}
+use Rattle.std.proofs.Common.{refl, rules}
+use Rattle.wire_out.proofs.Overs.{then_adds, adds_first}
 use Rattle.wire_out.proofs.event.write_came.Goals as goal
 
 pub returns : goal.returns
-returns c = wrote_first (then_wrote c.put_bytes-tag.ensures c.put_put.ensures (omega arith))
+returns c = let done = adds_first (then_adds c.byte.ensures c.put.ensures) refl in search rules

@@ -1,6 +1,6 @@
-use Rattle.std.proofs.Common.{arith}
-use Rattle.wire_out.proofs.Overs.{then_wrote, wrote_first}
+use Rattle.std.proofs.Common.{refl, rules}
+use Rattle.wire_out.proofs.Overs.{then_adds, adds_first}
 use Rattle.wire_out.proofs.event.write_has.Goals as goal
 
 pub returns : goal.returns
-returns c = wrote_first (then_wrote c.put_bytes-tag.ensures (then_wrote c.put_number-head.ensures c.put_clock.ensures (omega arith)) (omega arith))
+returns c = let done = adds_first (then_adds c.byte.ensures (then_adds c.number-2.ensures c.clock.ensures)) refl in search rules
