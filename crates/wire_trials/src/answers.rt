@@ -1,8 +1,8 @@
 // Answers, written and read.
 use std::test::Fail;
-use wire::answer::{Answer as Read, Next};
+use wire::answer::Answer as Read;
 use wire::answers::read_answer;
-use wire::event::{Body, Refusal};
+use wire::event::Refusal;
 use wire_out::answer::{Answer, Put};
 use wire_out::answers::{
     add_put, answer_len, begin_puts, end_puts, write_answer, write_none, write_puts, write_refused,
@@ -11,10 +11,8 @@ use wire_out::answers::{
 const PUT: Put<'static> = Put {
     from: 1,
     seen: &[3, 4],
-    body: Body::Text {
-        key: 2,
-        value: &[104, 105],
-    },
+    key: 2,
+    value: &[104, 105],
 };
 
 #[test]
@@ -29,30 +27,29 @@ fn refused(rt: HostRuntime) {
         out,
         [0, 1, 0, 0, 0, 0, 0, 0, 0, 44, 1, 0, 0, 0, 0, 0, 0, 9]
     );
-    assert!(rt; matches_refused(&out[0..17]));
-    assert!(rt; !matches_refused(&out));
+    assert_eq!(rt; refusal_in(&out[0..17]), Some((1, 300)));
+    assert_eq!(rt; refusal_in(&out), None);
 }
 
-fn matches_refused(bytes: &[u8]) -> bool {
-    match read_answer(bytes) {
-        Some(Read::Refused { refusal }) => refusal.number == 1 && refusal.place == 300,
-        _ => false,
+// The number of the refusal that the bytes are, and its place.
+fn refusal_in(bytes: &[u8]) -> Option<(u64, u64)> {
+    match read_answer(bytes)? {
+        Read::Refused { refusal } => Some((refusal.number, refusal.place)),
+        _ => None,
     }
 }
 
-// How many puts follow one another, up to eight; 9 if the bytes are no puts.
-fn count(bytes: &[u8]) -> usize {
-    let Some(Read::Puts { mut puts }) = read_answer(bytes) else {
-        return 9;
+// How many puts follow one another, if the bytes are puts.
+fn count(bytes: &[u8]) -> Option<usize> {
+    let Read::Puts { puts } = read_answer(bytes)? else {
+        return None;
     };
-    for n in 0..9 {
-        match puts.next() {
-            Some(Next::More { put: _, rest }) => puts = rest,
-            Some(Next::End) => return n,
-            None => return 9,
-        }
+    let mut n: usize = 0;
+    for put in puts {
+        put.ok()?;
+        n = n.checked_add(1)?;
     }
-    9
+    Some(n)
 }
 
 #[test]
@@ -68,9 +65,9 @@ fn puts_whole_and_by_parts(rt: HostRuntime) -> Result<(), Fail> {
     assert_eq!(rt; add_put(&mut parts, at, PUT), None);
     assert_eq!(rt; end_puts(&mut parts, at), Some(96));
     assert!(rt; whole == parts);
-    assert_eq!(rt; count(&whole[0..96]), 2);
-    assert_eq!(rt; count(&whole), 9);
-    assert_eq!(rt; count(&[1, 0]), 0);
+    assert_eq!(rt; count(&whole[0..96]), Some(2));
+    assert_eq!(rt; count(&whole), None);
+    assert_eq!(rt; count(&[1, 0]), Some(0));
     Ok(())
 }
 
@@ -81,23 +78,21 @@ fn value(rt: HostRuntime) {
         write_answer(&mut out, Answer::Value { put: Some(PUT) }),
         Some(49)
     );
-    assert_eq!(rt; key(&out), 2);
+    assert_eq!(rt; key(&out), Ok(Some(2)));
     assert_eq!(rt; write_none(&mut out), Some(2));
-    assert_eq!(rt; key(&out[0..2]), 100);
-    assert_eq!(rt; key(&out), 200);
+    assert_eq!(rt; key(&out[0..2]), Ok(None));
+    assert_eq!(rt; key(&out), Err(NoValue));
 }
 
-// The key of the put at a key; 100 if there is none, 200 if the bytes are no such answer.
-fn key(bytes: &[u8]) -> u64 {
+// Bytes that are no answer of none or one.
+#[derive(Clone, Copy, Debug, PartialEq, Eq)]
+struct NoValue;
+
+// The key of the put that stands at a key, if one does.
+fn key(bytes: &[u8]) -> Result<Option<u64>, NoValue> {
     match read_answer(bytes) {
-        Some(Read::Value { put }) => match put {
-            Some(put) => {
-                let Body::Text { key, value: _ } = put.body;
-                key
-            }
-            None => 100,
-        },
-        _ => 200,
+        Some(Read::Value { put }) => Ok(put.map(|put| put.key)),
+        _ => Err(NoValue),
     }
 }
 
