@@ -20,7 +20,8 @@ use Rattle.memory.specs.Valid.{Sound, AllSound, Fits, Down, Shaped}
 use Rattle.memory.specs.State.{with_clock, with_log, with_known, own_count}
 use Rattle.memory.proofs.Rings.{down_take}
 use Rattle.memory.proofs.State.{fits_log, sound_take, writes}
-use Rattle.logs.specs.State.{Fitted, Holds}
+use Rattle.logs.specs.declared.Replica.{Replica as Lent}
+use Rattle.logs.specs.State.{Fitted, Holds, Laid, Stands, Held, Same}
 use Rattle.logs.specs.Log.{least}
 use Rattle.logs.proofs.Logs.{pruned_is}
 
@@ -29,6 +30,14 @@ fitted l r m h = record { fits = h.valid.fits; mem = h.mem }
 
 pub holds : (l : Limits) (r r' : Replica) (m m' : List ℕ) → Holds l r m → Shaped l r'.delivery → Fitted l r' m' → Holds l r' m'
 holds l r r' m m' h s f = record { valid = record { fits = f.fits; shaped = s; few = h.valid.few }; mem = f.mem }
+
+-- the same of a replica in its memory
+pub stands : (l : Limits) (r : Replica) (x : Lent) → Held l r x → Stands l r x
+stands l r x h = record { fitted = fitted l r x.mem.now h.holds; laid = h.laid }
+
+-- where the parts lie stays
+pub laid_still : (l : Limits) (i : ℕ) (x y : Lent) → Same x y → Laid l i x.at → Laid l i y.at
+laid_still l i x y s w = subst (Laid l i) (sym s.at) w
 
 -- nothing is taken, and the store is as it was
 pub begun : (r : Replica) → moved (begin r.delivery) r.store ≡ r

@@ -1,2 +1,3 @@
+pub mod Ranged
 pub mod State
 pub mod Log

@@ -1,11 +1,11 @@
 -- A state in its memory, and where its parts lie. Definitions only.
-use Rattle.std.specs.Prelude.{◌≡◌, ℕ, ◌+◌, ◌≤◌, List, take, drop}
+use Rattle.std.specs.Prelude.{◌≡◌, ℕ, ◌+◌, List, take, drop}
 use Rattle.model.specs.Limits.{Limits}
-use Rattle.model.specs.Replica.{Replica}
-use Rattle.puts.specs.Values.{clock_size}
+use Rattle.model.specs.Replica.{Replica as ModelReplica}
 use Rattle.memory.specs.Image.{encode}
 use Rattle.memory.specs.Valid.{Fits, Valid}
-use Rattle.logs.specs.declared.Place.{Place}
+use Rattle.logs.specs.declared.place.Place.{Place}
+use Rattle.logs.specs.declared.Replica.{Replica}
 
 -- WHERE THE PARTS LIE: as the limits say, and which replica this is
 pub record Laid (l : Limits) (i : ℕ) (x : Place) : Type 0 where
@@ -14,22 +14,30 @@ pub record Laid (l : Limits) (i : ℕ) (x : Place) : Type 0 where
   pub log : (x.layout.log.base ≡ l.keys) × (x.layout.log.count ≡ l.log_most)
   pub waiting : (x.layout.waiting.base ≡ l.keys + l.log_most) × (x.layout.waiting.count ≡ l.waiting_most)
 
--- in range, so that no place overflows
-pub record Ranged (x : Place) : Type 0 where
-  pub replicas : x.replicas ≤ clock_size
-  pub keys : x.layout.keys.base ≡ 0
-  pub log : (x.layout.log.base ≤ 4096) × (x.layout.log.count ≤ 1024)
-  pub waiting : (x.layout.waiting.base ≤ 5120) × (x.layout.waiting.count ≤ 1024)
-
 -- MEMORY THAT IS THE IMAGE of a state each part of which has its place; the log may be between two shapes
-pub record Fitted (l : Limits) (r : Replica) (m : List ℕ) : Type 0 where
+pub record Fitted (l : Limits) (r : ModelReplica) (m : List ℕ) : Type 0 where
   pub fits : Fits l r
   pub mem : m ≡ encode l r
 
 -- and of a valid one
-pub record Holds (l : Limits) (r : Replica) (m : List ℕ) : Type 0 where
+pub record Holds (l : Limits) (r : ModelReplica) (m : List ℕ) : Type 0 where
   pub valid : Valid l r
   pub mem : m ≡ encode l r
+
+-- A REPLICA IN ITS MEMORY: that is the image of a state, and its parts lie as the limits say
+pub record Stands (l : Limits) (r : ModelReplica) (x : Replica) : Type 0 where
+  pub fitted : Fitted l r x.mem.now
+  pub laid : Laid l r.delivery.me x.at
+
+-- and of a valid one
+pub record Held (l : Limits) (r : ModelReplica) (x : Replica) : Type 0 where
+  pub holds : Holds l r x.mem.now
+  pub laid : Laid l r.delivery.me x.at
+
+-- the memory that was lent and the place in it are still the same
+pub record Same (x y : Replica) : Type 0 where
+  pub mem : y.mem.ghost_name ≡ x.mem.ghost_name
+  pub at : y.at ≡ x.at
 
 -- none or one: the i-th of some
 abbrev pub nth_of : {A : Type 0} → List A → ℕ → List A
