@@ -1,6 +1,7 @@
 -- What leaves the log, and what is answered from it.
-use Rattle.std.proofs.Common.{◌≡◌, ℕ, zero, suc, ◌+◌, ◌-◌, ◌<◌, ◌≤◌, min, Bool, true, false, cond, not, ◌&&◌, leb, List, [], ◌∷◌, reverse, length, get_or, take, drop, filter, sym, refl, ap, ◌∙◌, subst, inl, inr, arith}
+use Rattle.std.proofs.Common.{◌≡◌, ℕ, zero, suc, ◌+◌, ◌-◌, ◌<◌, ◌≤◌, min, Bool, true, false, cond, not, ◌&&◌, leb, List, [], ◌∷◌, reverse, length, get_or, take, filter, sym, refl, ap, ◌∙◌, subst, inl, inr, arith}
 use mathlib.Core.List.{reverse_aux}
+use Rattle.std.specs.List.{fold, range_with_len}
 use Rattle.std.proofs.lemmas.List.{length-take, length-reverse, get_or-take, get_or-reverse, drop_more, drop_all}
 use Rattle.std.proofs.lemmas.Bool.{cases_lt, le-leb, lt-leb}
 use Rattle.std.proofs.ByRecursion.{All-get_or, All-from_get_or, all_kept_by}
@@ -26,13 +27,12 @@ in_at P (y ∷ xs) x a (inl e) = subst P (sym e) (a 0 y (omega arith))
 in_at P (y ∷ xs) x a (inr i) = in_at P xs x (λ k d h. a (suc k) d (omega arith)) i
 
 -- THE SMALLEST COUNT
-pub least_more : (s me i : ℕ) (cs : List Clock) → i < length cs → least s me (drop i cs) ≡ least (min s (at (get_or cs i []) me)) me (drop (i + 1) cs)
+pub least_over : (smaller : ℕ → ℕ → ℕ) (s me j : ℕ) (cs : List Clock) → ((n i k : ℕ) → i < length cs → k ≡ j + i → smaller n k ≡ min n (at (get_or cs i []) me)) → fold smaller s (range_with_len j (length cs)) ≡ least s me cs
 unfolding least
-least_more s me i cs h = rw (drop_more cs i [] h)
-
-pub least_all : (s me i : ℕ) (cs : List Clock) → length cs ≤ i → least s me (drop i cs) ≡ s
-unfolding least
-least_all s me i cs h = rw (drop_all i cs h)
+least_over smaller s me j [] h = refl
+least_over smaller s me j (c ∷ cs) h =
+    ap (λ n. fold smaller n (range_with_len (j + 1) (length cs))) (h s 0 j (omega arith) (omega arith))
+    ∙ least_over smaller (min s (at c me)) me (j + 1) cs (λ n i k lt e. h n (suc i) k (omega arith) (omega arith))
 
 and_min : (n a s : ℕ) (b : Bool) → ((leb n a && b) && leb n s) ≡ (b && leb n (min s a))
 and_min n a s true = elim (cases_lt a n) [

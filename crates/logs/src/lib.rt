@@ -109,11 +109,9 @@ impl Replica<'_> {
     fn least_known(&self, own: u64) -> u64
         ensures { (l : Limits) (r : ModelReplica) → Stands l r self.now → result ≡ least own r.delivery.me r.delivery.known }
     {
-        let mut low = own;
-        for i in 0..self.at.replicas {
-            low = low.min(read_word(self.mem, KNOWN_ROW + i, self.at.me));
-        }
-        low
+        (0..self.at.replicas).fold(own, |low, i| {
+            low.min(read_word(self.mem, KNOWN_ROW + i, self.at.me))
+        })
     }
 
     // An own put goes to the log.
