@@ -1,7 +1,6 @@
 -- What the reads and writes of the header and the log mean for a state in its memory.
-use Rattle.std.proofs.Common.{◌≡◌, ℕ, zero, suc, ◌+◌, ◌-◌, ◌%◌, ◌<◌, ◌≤◌, List, [], ◌∷◌, length, take, set, sym, refl, ap, ◌∙◌, subst, inl, inr, arith}
-use Rattle.std.proofs.lemmas.List.{length-set, length-take, take_all}
-use Rattle.std.proofs.lemmas.Bool.{cases_lt}
+use Rattle.std.proofs.Common.{◌≡◌, ℕ, zero, suc, ◌+◌, ◌-◌, ◌%◌, ◌<◌, ◌≤◌, List, [], ◌∷◌, length, take, set, sym, refl, ap, ◌∙◌, subst, arith}
+use Rattle.std.proofs.lemmas.List.{length-set, length-take}
 use Rattle.model.specs.Limits.{Limits, count_bound}
 use Rattle.model.specs.Clock.{Clock, at, join, tick}
 use Rattle.model.specs.Put.{Put, Body, number}
@@ -124,10 +123,6 @@ module _ (l : Limits) (r : Replica) (m : List ℕ) (f : Fitted l r m) where
         mem = e₂ ∙ (λ i. with_word 0 1 (en i) (e i)) ∙ (writes l r f.fits).logs q z;
       }
 
-  -- the log as it is, seen as a front of itself
-  pub whole_log : (n : ℕ) → n ≡ length r.delivery.log → Fitted l (with_log (take n r.delivery.log) r) m
-  whole_log n e = let P : List (Put Body) → Type 0 = λ ps. Fitted l (with_log ps r) m in subst P (sym (take_all n r.delivery.log (omega arith))) f
-
 -- the last of its front leaves
 pub shorter : (l : Limits) (r : Replica) (m m₁ m₂ ws : List ℕ) (k j : ℕ) → Fits l r → Shaped l r.delivery → j < length r.delivery.log → k ≡ l.keys + (own_count r - j) % l.log_most → ws ≡ slot_words [] →
     m₁ ≡ with_slot k ws m → m₂ ≡ with_word 0 1 j m₁ → Fitted l (with_log (take (suc j) r.delivery.log) r) m → Fitted l (with_log (take j r.delivery.log) r) m₂
@@ -137,13 +132,6 @@ shorter l r m m₁ m₂ ws k j v s h ek ew e₁ e₂ g =
       fits = fits_log l r (take j r.delivery.log) v (sound_take l r.delivery.log j v.delivery.logs);
       mem = e₂ ∙ ap (with_word 0 1 j) e ∙ (writes l r v).unlogs s j h;
     }
-
-take_least : {A : Type 0} (a b : ℕ) (xs : List A) → a ≤ b → (a < b → length xs ≤ a) → take a xs ≡ take b xs
-take_least a b xs h f = elim (cases_lt a b) [ inl t ↦ take_all a xs (f t) ∙ sym (take_all b xs (omega (arith, f t))) | inr t ↦ let e : a ≡ b = omega arith in ap (λ n. take n xs) e ]
-
--- the loop ends with n, which is at most what may stay, and less only if there were less
-pub stays : (l : Limits) (r : Replica) (m : List ℕ) (n stay : ℕ) → n ≤ stay → (n < stay → length r.delivery.log ≤ n) → Fitted l (with_log (take n r.delivery.log) r) m → Fitted l (with_log (take stay r.delivery.log) r) m
-stays l r m n stay h g f = let P : List (Put Body) → Type 0 = λ ps. Fitted l (with_log ps r) m in subst P (take_least n stay r.delivery.log h g) f
 
 pub pruned_fits : (l : Limits) (r : Replica) (m : List ℕ) (n own : ℕ) → Shaped l r.delivery → own ≡ own_count r → n ≡ own - least own r.delivery.me r.delivery.known →
     Fitted l (with_log (take n r.delivery.log) r) m → Fitted l (with_log (pruned r.delivery.known r.delivery.log) r) m

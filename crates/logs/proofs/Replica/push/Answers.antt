@@ -7,9 +7,6 @@ use Rattle.puts.proofs.Padded.{number_code}
 use Rattle.logs.proofs.Changes.{pushed}
 use Rattle.logs.proofs.Replica.push.Goals as goal
 
-pub returns-then-self-eq0-clause-does : goal.returns-then-self-eq0-clause-does
-returns-then-self-eq0-clause-does c = λ l r q s o h e. absurd (omega (arith, s.laid.log.1))
-
 pub returns-clause-does : goal.returns-clause-does
 unfolding slot_words
 returns-clause-does c =

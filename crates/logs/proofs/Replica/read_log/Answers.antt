@@ -1,11 +1,8 @@
-use Rattle.std.proofs.Common.{◌+◌, ◌%◌, ◌∙◌, arith}
+use Rattle.std.proofs.Common.{◌+◌, ◌%◌, ◌∙◌}
 use Rattle.puts.specs.Words.{code_slot}
 use Rattle.slots.specs.Image.{put_at}
 use Rattle.memory.proofs.State.{reads}
 use Rattle.logs.proofs.Replica.read_log.Goals as goal
-
-pub returns-then-self-eq0 : goal.returns-then-self-eq0
-returns-then-self-eq0 c = λ l r k d h lt en. absurd (omega (arith, h.holds.valid.shaped.some, h.laid.log.1))
 
 pub returns : goal.returns
 unfolding code_slot

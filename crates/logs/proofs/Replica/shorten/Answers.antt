@@ -2,17 +2,8 @@ use Rattle.std.proofs.Common.{◌≡◌, ℕ, suc, ◌+◌, ◌-◌, ◌%◌, ta
 use Rattle.puts.specs.Words.{slot_words}
 use Rattle.memory.specs.State.{with_log, own_count}
 use Rattle.logs.specs.State.{Fitted}
-use Rattle.logs.proofs.Changes.{shorter, whole_log, stays}
+use Rattle.logs.proofs.Changes.{shorter}
 use Rattle.logs.proofs.Replica.shorten.Goals as goal
-
-pub loop-len-init : goal.loop-len-init
-loop-len-init c = (
-  record { mem = refl; at = refl },
-  c.logged-len.ensures.bound,
-  λ l r s d o.
-      let n = c.logged-len.ensures.count l r s d.room in
-      (omega arith, (λ t. omega arith), record { fitted = whole_log l r _ s.fitted _ n; laid = s.laid }),
-)
 
 pub loop-len-preserved : goal.loop-len-preserved
 unfolding slot_words
@@ -32,9 +23,3 @@ loop-len-preserved c = (
         record { fitted = shorter l r _ _ _ _ _ j s.fitted.fits d (omega (arith, i.0)) k refl c.clear_slot.ensures c.write_word.ensures (subst P e i.2.fitted); laid = w },
       ),
 )
-
-pub returns-clause-does : goal.returns-clause-does
-returns-clause-does c =
-    λ l r s d o.
-    let i = c.loop-len.invariant.2 l r s d o in
-    record { fitted = stays l r _ c.loop-len.len c.args.stay (omega arith) i.1 i.2.fitted; laid = i.2.laid }
