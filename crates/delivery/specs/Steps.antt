@@ -11,7 +11,8 @@ use Rattle.puts.specs.Words.{Slot}
 use Rattle.slots.specs.Image.{memory}
 use Rattle.memory.specs.Image.{one, queue, ring, rows}
 use Rattle.memory.specs.State.{with_waiting}
-use Rattle.logs.specs.State.{Holds}
+use Rattle.logs.specs.declared.Replica.{Replica as Lent}
+use Rattle.logs.specs.State.{Held}
 
 -- another state of delivery
 abbrev pub with_delivery : Delivery Body → Replica → Replica
@@ -33,9 +34,9 @@ abbrev pub if_ready : Delivery Body → Put Body → List (Put Body)
 if_ready d p = cond (ready d p) (p ∷ []) []
 
 -- while waiting puts are taken, they stay in their slots: memory has a longer queue, of which the clock lacks what waits
-pub record Unswept (l : Limits) (m : Run Body) (s : Store) (mem : List ℕ) : Type 0 where
+pub record Unswept (l : Limits) (m : Run Body) (s : Store) (x : Lent) : Type 0 where
   pub all : List (Put Body)
-  pub holds : Holds l (with_waiting all (moved m s)) mem
+  pub held : Held l (with_waiting all (moved m s)) x
   pub rest : lacking m.now.clock all ≡ m.now.waiting
 
 -- THE QUEUE IN PLACE: a slot whose put the clock lacks stays

@@ -1,165 +1,158 @@
 // Delivery in a replica's memory: which puts are taken, and in which order. Scanning what waits reads heads, and a whole slot only where the number fits.
 #![tactic(auto)]
 
-ghost use Rattle.std.specs.Prelude.{◌≡◌, ℕ, ◌<◌, ◌≤◌, true, ◌≢◌, List, [], ◌∷◌, length, if◌then◌else◌, slice_index_or, slice_set};
+ghost use Rattle.std.specs.Prelude.{◌≡◌, ℕ, ◌+◌, ◌<◌, ◌≤◌, true, ◌≢◌, List, [], ◌∷◌, length, if◌then◌else◌, slice_index_or, slice_set};
 ghost use Rattle.model.specs.Limits.{Limits};
 ghost use Rattle.model.specs.Clock.{Clock as ModelClock};
-ghost use Rattle.model.specs.Put.{Put as ModelPut, Body, number as number_of, had as is_had, key_of, text as text_at, good_body};
-ghost use Rattle.model.specs.Delivery.{Run, begin, take_one, is_in, nothing_new as is_nothing_new, ready as is_ready, enqueued, lacking, stamped, settle as settled, deliver as delivered};
+ghost use Rattle.model.specs.Put.{Put as ModelPut, Body, number as number_of, had as is_had, same_put, key_of, text as text_at, good_body};
+ghost use Rattle.model.specs.Delivery.{Run, begin, take_one, is_in, nothing_new as is_nothing_new, ready as is_ready, first_ready as first_of, enqueued, lacking, stamped, settle as settled, deliver as delivered};
 ghost use Rattle.model.specs.Store.{Store, stand as stands, stored, shown};
-ghost use Rattle.model.specs.Replica.{Replica, put as put_of, came, possible, log_room, queue_room, moved};
+ghost use Rattle.model.specs.Replica.{Replica as ModelReplica, put as put_of, came, possible, log_room, queue_room, moved};
 ghost use Rattle.puts.specs.Values.{clock_size, code_clock, code_put, code_text, Bytes, Fit};
 ghost use Rattle.puts.specs.Words.{Slot, code_slot, code_head};
 ghost use Rattle.slots.specs.Image.{row_count, memory};
 ghost use Rattle.memory.specs.Valid.{Sound};
 ghost use Rattle.memory.specs.State.{with_waiting, with_store};
-ghost use Rattle.logs.specs.State.{Laid, Ranged, Fitted, Holds, nth_of};
+ghost use Rattle.logs.specs.State.{Fitted, Stands, Held, Same, nth_of};
 ghost use Rattle.delivery.specs.Steps.{with_delivery, followed, took, if_ready, Moved, Unswept};
 
-use logs::{Place, clock_of, count_put, know, prune, push, value_at, waiting};
+use logs::Replica;
 use memory::{SIZES_ROW, WAITING_SIZE};
 use puts::words::Head;
 use puts::{Clock, Put, Text};
 use slots::{clear_slot, copy_slot, read_head, read_slot, write_slot, write_word};
 
 // The head of the `i`-th put that waits: none past the end.
-pub fn waiting_head(mem: &[u64], at: Place, i: usize) -> Option<Head>
-    requires { Ranged at }
-    ensures { (l : Limits) (r : Replica) → Fitted l r mem.now → Laid l r.delivery.me at → result ≡ code_head (nth_of r.delivery.waiting i) }
+pub fn waiting_head(replica: &Replica<'_>, i: usize) -> Option<Head>
+    ensures { (l : Limits) (r : ModelReplica) → Stands l r replica.now → result ≡ code_head (nth_of r.delivery.waiting i) }
 {
-    if i >= waiting(mem, at) {
+    if i >= replica.waiting() {
         return None;
     }
-    read_head(mem, at.layout.waiting.base + i)
+    read_head(replica.mem, replica.at.waiting_slot(i))
 }
 
 // The put itself.
-pub fn waiting_at(mem: &[u64], at: Place, i: usize) -> Option<Put>
-    requires { Ranged at }
-    ensures { (l : Limits) (r : Replica) → Fitted l r mem.now → Laid l r.delivery.me at → result ≡ code_slot (nth_of r.delivery.waiting i) }
+pub fn waiting_at(replica: &Replica<'_>, i: usize) -> Option<Put>
+    ensures { (l : Limits) (r : ModelReplica) → Stands l r replica.now → result ≡ code_slot (nth_of r.delivery.waiting i) }
 {
-    if i >= waiting(mem, at) {
+    if i >= replica.waiting() {
         return None;
     }
-    read_slot(mem, at.layout.waiting.base + i)
+    read_slot(replica.mem, replica.at.waiting_slot(i))
 }
 
-// The put with this head waits.
-fn is_waiting(mem: &[u64], at: Place, from: u64, number: u64) -> bool
-    requires { Ranged at }
-    ensures { (l : Limits) (r : Replica) (q : ModelPut Body) → Fitted l r mem.now → Laid l r.delivery.me at → from ≡ q.from → number ≡ number_of q → result ≡ is_in q r.delivery.waiting }
+// The `i`-th put that waits has this head.
+fn waits_at(replica: &Replica<'_>, i: usize, from: u64, number: u64) -> bool
+    requires { i ≤ replica.now.at.layout.waiting.count }
+    ensures { (l : Limits) (r : ModelReplica) (q d : ModelPut Body) → Stands l r replica.now → i < length r.delivery.waiting → from ≡ q.from → number ≡ number_of q → result ≡ same_put q (slice_index_or r.delivery.waiting i d) }
 {
-    for i in 0..waiting(mem, at) {
-        let Some(head) = read_head(mem, at.layout.waiting.base + i) else {
-            continue;
-        };
-        if from == head.from && number == head.number {
-            return true;
-        }
-    }
-    false
+    read_head(replica.mem, replica.at.waiting_slot(i)).is_some_and(|head| head.from == from
+        && head.number == number)
+}
+
+// A put with this head waits.
+fn is_waiting(replica: &Replica<'_>, from: u64, number: u64) -> bool
+    ensures { (l : Limits) (r : ModelReplica) (q : ModelPut Body) → Stands l r replica.now → from ≡ q.from → number ≡ number_of q → result ≡ is_in q r.delivery.waiting }
+{
+    (0..replica.waiting()).any(|i| waits_at(replica, i, from, number))
 }
 
 // It was taken.
-pub fn had(mem: &[u64], p: &Put) -> bool
-    ensures { (l : Limits) (r : Replica) (q : ModelPut Body) → Fitted l r mem.now → Sound l q → p.now ≡ code_put q → result ≡ is_had r.delivery.clock q }
+pub fn had(replica: &Replica<'_>, p: &Put) -> bool
+    ensures { (l : Limits) (r : ModelReplica) (q : ModelPut Body) → Fitted l r replica.now.mem.now → Sound l q → p.now ≡ code_put q → result ≡ is_had r.delivery.clock q }
 {
-    let clock = clock_of(mem);
-    p.had_by(&clock)
+    p.had_by(&replica.clock_of())
 }
 
 // It was taken, or it waits already.
-pub fn nothing_new(mem: &[u64], at: Place, p: &Put) -> bool
-    requires { Ranged at }
-    ensures { (l : Limits) (r : Replica) (q : ModelPut Body) → Fitted l r mem.now → Laid l r.delivery.me at → Sound l q → p.now ≡ code_put q → result ≡ is_nothing_new r.delivery q }
+pub fn nothing_new(replica: &Replica<'_>, p: &Put) -> bool
+    ensures { (l : Limits) (r : ModelReplica) (q : ModelPut Body) → Stands l r replica.now → Sound l q → p.now ≡ code_put q → result ≡ is_nothing_new r.delivery q }
 {
-    had(mem, p) || is_waiting(mem, at, p.from, p.number())
+    had(replica, p) || is_waiting(replica, p.from, p.number())
 }
 
 // It is the next of its replica, and all that it had seen is here.
-pub fn ready(mem: &[u64], p: &Put) -> bool
-    ensures { (l : Limits) (r : Replica) (q : ModelPut Body) → Fitted l r mem.now → Sound l q → p.now ≡ code_put q → result ≡ is_ready r.delivery q }
+pub fn ready(replica: &Replica<'_>, p: &Put) -> bool
+    ensures { (l : Limits) (r : ModelReplica) (q : ModelPut Body) → Fitted l r replica.now.mem.now → Sound l q → p.now ≡ code_put q → result ≡ is_ready r.delivery q }
 {
-    let clock = clock_of(mem);
-    p.ready(&clock)
+    p.ready(&replica.clock_of())
 }
 
 // The put that this replica makes now.
-pub fn stamp(mem: &[u64], at: Place, key: u64, value: Text) -> Put
-    ensures { (l : Limits) (r : Replica) (v : List ℕ) → Fitted l r mem.now → Laid l r.delivery.me at → value ≡ code_text v → result ≡ code_put (stamped (text_at key v) r.delivery) }
+pub fn stamp(replica: &Replica<'_>, key: u64, value: Text) -> Put
+    ensures { (l : Limits) (r : ModelReplica) (v : List ℕ) → Stands l r replica.now → value ≡ code_text v → result ≡ code_put (stamped (text_at key v) r.delivery) }
 {
     Put {
-        from: at.me as u64,
-        seen: clock_of(mem),
+        from: replica.at.me as u64,
+        seen: replica.clock_of(),
         key,
         value,
     }
 }
 
 // A put waits.
-pub fn enqueue(mem: &mut [u64], at: Place, p: &Put)
-    requires { Ranged at }
-    ensures { (l : Limits) (r : Replica) (q : ModelPut Body) → Holds l r mem.old → Laid l r.delivery.me at → Sound l q → q.from ≢ r.delivery.me → length r.delivery.waiting < l.waiting_most → p.now ≡ code_put q → Holds l (with_delivery (enqueued q r.delivery) r) mem.new }
+pub fn enqueue(replica: &mut Replica<'_>, p: &Put)
+    ensures same { Same replica.old replica.new }
+    ensures does { (l : Limits) (r : ModelReplica) (q : ModelPut Body) → Held l r replica.old → Sound l q → q.from ≢ r.delivery.me → length r.delivery.waiting < l.waiting_most → p.now ≡ code_put q → Held l (with_delivery (enqueued q r.delivery) r) replica.new }
 {
-    let n = waiting(mem, at);
-    write_slot(mem, at.layout.waiting.base + n, p);
-    write_word(mem, SIZES_ROW, WAITING_SIZE, n as u64 + 1);
+    let n = replica.waiting();
+    write_slot(replica.mem, replica.at.waiting_slot(n), p);
+    write_word(replica.mem, SIZES_ROW, WAITING_SIZE, n as u64 + 1);
 }
 
 // A put is later than what stands at its key.
-fn wins(mem: &[u64], at: Place, p: &Put) -> bool
-    requires { Ranged at }
-    ensures { (l : Limits) (r : Replica) (q : ModelPut Body) → Fitted l r mem.now → Sound l q → p.now ≡ code_put q → stands q (shown r.store (key_of q.body)) ≡ (if result then q ∷ [] else shown r.store (key_of q.body)) }
+fn wins(replica: &Replica<'_>, p: &Put) -> bool
+    ensures { (l : Limits) (r : ModelReplica) (q : ModelPut Body) → Fitted l r replica.now.mem.now → Sound l q → p.now ≡ code_put q → stands q (shown r.store (key_of q.body)) ≡ (if result then q ∷ [] else shown r.store (key_of q.body)) }
 {
-    match value_at(mem, at, p.key) {
-        None => true,
-        Some(old) => p.later(&old),
-    }
+    replica.value_at(p.key).is_none_or(|old| p.later(&old))
 }
 
 // Then it stands there.
-fn stand(mem: &mut [u64], at: Place, p: &Put)
-    requires { Ranged at }
-    ensures { (l : Limits) (r : Replica) (q : ModelPut Body) → Fitted l r mem.old → Sound l q → p.now ≡ code_put q → Fitted l (with_store (stored q r.store) r) mem.new }
+fn stand(replica: &mut Replica<'_>, p: &Put)
+    ensures same { Same replica.old replica.new }
+    ensures does { (l : Limits) (r : ModelReplica) (q : ModelPut Body) → Fitted l r replica.old.mem.now → Sound l q → p.now ≡ code_put q → Fitted l (with_store (stored q r.store) r) replica.new.mem.now }
 {
-    if wins(mem, at, p) {
-        write_slot(mem, at.layout.keys.base + p.key as usize, p);
+    if wins(replica, p) {
+        write_slot(replica.mem, replica.at.key_slot(p.key), p);
     }
 }
 
-// The put in slot `k` is had.
-fn had_at(mem: &[u64], k: usize, clock: &Clock) -> bool
-    ensures { (rs : List (List ℕ)) (ss : List Slot) (q : ModelPut Body) (c : ModelClock) → length rs ≡ row_count → k < length ss → slice_index_or ss k [] ≡ q ∷ [] → Fit q → length c ≤ clock_size → clock.now ≡ code_clock c → mem.now ≡ memory rs ss → result ≡ is_had c q }
+// The `i`-th put that waits is had.
+fn had_at(replica: &Replica<'_>, i: usize, clock: &Clock) -> bool
+    requires { i ≤ replica.now.at.layout.waiting.count }
+    ensures { (rs : List (List ℕ)) (ss : List Slot) (q : ModelPut Body) (c : ModelClock) → length rs ≡ row_count → replica.now.at.layout.waiting.base + i < length ss → slice_index_or ss (replica.now.at.layout.waiting.base + i) [] ≡ q ∷ [] → Fit q → length c ≤ clock_size → clock.now ≡ code_clock c → replica.now.mem.now ≡ memory rs ss → result ≡ is_had c q }
 {
-    let Some(head) = read_head(mem, k) else {
-        return false;
-    };
-    head.number <= clock.count(head.from)
+    read_head(replica.mem, replica.at.waiting_slot(i)).is_some_and(|head| head.number
+        <= clock.count(head.from))
 }
 
-// What stands in slot `k` stands in slot `to`.
-fn move_slot(mem: &mut [u64], k: usize, to: usize)
-    ensures { (rs : List (List ℕ)) (ss : List Slot) → length rs ≡ row_count → k < length ss → to < length ss → mem.old ≡ memory rs ss → mem.new ≡ memory rs (slice_set ss to (slice_index_or ss k [])) }
+// What stands in slot `i` of what waits stands in slot `to` of it.
+fn move_slot(replica: &mut Replica<'_>, i: usize, to: usize)
+    requires { (i ≤ replica.old.at.layout.waiting.count) × (to ≤ replica.old.at.layout.waiting.count) }
+    ensures same { Same replica.old replica.new }
+    ensures does { (rs : List (List ℕ)) (ss : List Slot) → length rs ≡ row_count → replica.old.at.layout.waiting.base + i < length ss → replica.old.at.layout.waiting.base + to < length ss → replica.old.mem.now ≡ memory rs ss → replica.new.mem.now ≡ memory rs (slice_set ss (replica.old.at.layout.waiting.base + to) (slice_index_or ss (replica.old.at.layout.waiting.base + i) [])) }
 {
-    if k != to {
-        copy_slot(mem, k, to);
+    if i != to {
+        copy_slot(
+            replica.mem,
+            replica.at.waiting_slot(i),
+            replica.at.waiting_slot(to),
+        );
     }
 }
 
 // Moves what is not had to the front of what waits, in its order; how much that is.
-fn keep(mem: &mut [u64], at: Place, count: usize, clock: &Clock) -> usize
-    requires { (Ranged at) × (count ≤ at.layout.waiting.count) }
+fn keep(replica: &mut Replica<'_>, count: usize, clock: &Clock) -> usize
+    requires { count ≤ replica.old.at.layout.waiting.count }
+    ensures same { Same replica.old replica.new }
     ensures bound { result ≤ count }
-    ensures moved { (l : Limits) (r : Replica) → Fitted l r mem.old → Laid l r.delivery.me at → count ≡ length r.delivery.waiting → clock.now ≡ code_clock r.delivery.clock → Moved l r mem.new count result }
+    ensures moved { (l : Limits) (r : ModelReplica) → Stands l r replica.old → count ≡ length r.delivery.waiting → clock.now ≡ code_clock r.delivery.clock → Moved l r replica.new.mem.now count result }
 {
     let mut stay = 0;
     for i in 0..count {
-        if !had_at(mem, at.layout.waiting.base + i, clock) {
-            move_slot(
-                mem,
-                at.layout.waiting.base + i,
-                at.layout.waiting.base + stay,
-            );
+        if !had_at(replica, i, clock) {
+            move_slot(replica, i, stay);
             stay += 1;
         }
     }
@@ -167,132 +160,124 @@ fn keep(mem: &mut [u64], at: Place, count: usize, clock: &Clock) -> usize
 }
 
 // What is had waits no more.
-fn clean(mem: &mut [u64], at: Place)
-    requires { Ranged at }
-    ensures { (l : Limits) (r : Replica) → Fitted l r mem.old → Laid l r.delivery.me at → Fitted l (with_waiting (lacking r.delivery.clock r.delivery.waiting) r) mem.new }
+fn clean(replica: &mut Replica<'_>)
+    ensures same { Same replica.old replica.new }
+    ensures does { (l : Limits) (r : ModelReplica) → Stands l r replica.old → Stands l (with_waiting (lacking r.delivery.clock r.delivery.waiting) r) replica.new }
 {
-    let count = waiting(mem, at);
+    let count = replica.waiting();
     if count == 0 {
         return;
     }
-    let clock = clock_of(mem);
-    let stay = keep(mem, at, count, &clock);
+    let clock = replica.clock_of();
+    let stay = keep(replica, count, &clock);
     for j in stay..count {
-        clear_slot(mem, at.layout.waiting.base + j);
+        clear_slot(replica.mem, replica.at.waiting_slot(j));
     }
-    write_word(mem, SIZES_ROW, WAITING_SIZE, stay as u64);
+    write_word(replica.mem, SIZES_ROW, WAITING_SIZE, stay as u64);
 }
 
 // After a count: of itself the replica knows its clock, and what all have leaves the log.
-fn follow(mem: &mut [u64], at: Place)
-    requires { Ranged at }
-    ensures { (l : Limits) (r : Replica) → Holds l r mem.old → Laid l r.delivery.me at → Holds l (followed r) mem.new }
+fn follow(replica: &mut Replica<'_>)
+    ensures same { Same replica.old replica.new }
+    ensures does { (l : Limits) (r : ModelReplica) → Held l r replica.old → Held l (followed r) replica.new }
 {
-    let clock = clock_of(mem);
-    know(mem, at.me, &clock);
-    prune(mem, at);
+    let clock = replica.clock_of();
+    let me = replica.at.me;
+    replica.know(me, &clock);
+    replica.prune();
 }
 
 // Takes an own put, for which the log has room.
-pub fn take_own(mem: &mut [u64], at: Place, p: &Put)
-    requires { Ranged at }
-    ensures { (l : Limits) (r : Replica) (q : ModelPut Body) → Holds l r mem.old → Laid l r.delivery.me at → Sound l q → is_ready r.delivery q ≡ true → q.from ≡ r.delivery.me → length r.delivery.log < l.log_most → p.now ≡ code_put q → Holds l (moved (take_one q (begin r.delivery)) r.store) mem.new }
+pub fn take_own(replica: &mut Replica<'_>, p: &Put)
+    ensures same { Same replica.old replica.new }
+    ensures does { (l : Limits) (r : ModelReplica) (q : ModelPut Body) → Held l r replica.old → Sound l q → is_ready r.delivery q ≡ true → q.from ≡ r.delivery.me → length r.delivery.log < l.log_most → p.now ≡ code_put q → Held l (moved (take_one q (begin r.delivery)) r.store) replica.new }
 {
-    count_put(mem, at.me);
-    stand(mem, at, p);
-    push(mem, at, p);
-    follow(mem, at);
-    clean(mem, at);
+    let me = replica.at.me;
+    replica.count_put(me);
+    stand(replica, p);
+    replica.push(p);
+    follow(replica);
+    clean(replica);
 }
 
 // Makes a put of these bytes at a key, and takes it.
-pub fn make_put(mem: &mut [u64], at: Place, key: u64, value: Text) -> Put
-    requires { Ranged at }
-    ensures { (l : Limits) (r : Replica) (v : List ℕ) → Holds l r mem.old → Laid l r.delivery.me at → value ≡ code_text v → Bytes v → good_body l (text_at key v) ≡ true → log_room l r.delivery (put_of (text_at key v)) ≡ true → (result ≡ code_put (stamped (text_at key v) r.delivery)) × Holds l (moved (take_one (stamped (text_at key v) r.delivery) (begin r.delivery)) r.store) mem.new }
+pub fn make_put(replica: &mut Replica<'_>, key: u64, value: Text) -> Put
+    ensures same { Same replica.old replica.new }
+    ensures does { (l : Limits) (r : ModelReplica) (v : List ℕ) → Held l r replica.old → value ≡ code_text v → Bytes v → good_body l (text_at key v) ≡ true → log_room l r.delivery (put_of (text_at key v)) ≡ true → (result ≡ code_put (stamped (text_at key v) r.delivery)) × Held l (moved (take_one (stamped (text_at key v) r.delivery) (begin r.delivery)) r.store) replica.new }
 {
-    let p = stamp(mem, at, key, value);
-    take_own(mem, at, &p);
+    let p = stamp(replica, key, value);
+    take_own(replica, &p);
     p
 }
 
 // Takes another's put, which is ready; what waits is left as it is.
-fn take_other(mem: &mut [u64], at: Place, p: &Put)
-    requires { Ranged at }
-    ensures { (l : Limits) (r : Replica) (q : ModelPut Body) → Holds l r mem.old → Laid l r.delivery.me at → Sound l q → is_ready r.delivery q ≡ true → q.from ≢ r.delivery.me → p.now ≡ code_put q → Holds l (with_waiting r.delivery.waiting (took q r)) mem.new }
+fn take_other(replica: &mut Replica<'_>, p: &Put)
+    ensures same { Same replica.old replica.new }
+    ensures does { (l : Limits) (r : ModelReplica) (q : ModelPut Body) → Held l r replica.old → Sound l q → is_ready r.delivery q ≡ true → q.from ≢ r.delivery.me → p.now ≡ code_put q → Held l (with_waiting r.delivery.waiting (took q r)) replica.new }
 {
-    count_put(mem, p.from as usize);
-    stand(mem, at, p);
-    follow(mem, at);
+    replica.count_put(p.from as usize);
+    stand(replica, p);
+    follow(replica);
 }
 
 // The `i`-th put that waits, if it is ready.
-fn ready_at(mem: &[u64], at: Place, i: usize, clock: &Clock) -> Option<Put>
-    requires { (Ranged at) × (i ≤ at.layout.waiting.count) }
-    ensures { (l : Limits) (r : Replica) (d : ModelPut Body) → Fitted l r mem.now → Laid l r.delivery.me at → i < length r.delivery.waiting → clock.now ≡ code_clock r.delivery.clock → result ≡ code_slot (if_ready r.delivery (slice_index_or r.delivery.waiting i d)) }
+fn ready_at(replica: &Replica<'_>, i: usize, clock: &Clock) -> Option<Put>
+    requires { i ≤ replica.now.at.layout.waiting.count }
+    ensures { (l : Limits) (r : ModelReplica) (d : ModelPut Body) → Stands l r replica.now → i < length r.delivery.waiting → clock.now ≡ code_clock r.delivery.clock → result ≡ code_slot (if_ready r.delivery (slice_index_or r.delivery.waiting i d)) }
 {
-    let k = at.layout.waiting.base + i;
-    let Some(head) = read_head(mem, k) else {
-        return None;
-    };
+    let slot = replica.at.waiting_slot(i);
+    let head = read_head(replica.mem, slot)?;
     if head.number != clock.count(head.from).wrapping_add(1) {
         return None;
     }
-    let Some(p) = read_slot(mem, k) else {
-        return None;
-    };
-    if !p.ready(clock) {
-        return None;
-    }
-    Some(p)
+    read_slot(replica.mem, slot).filter(|p| p.ready(clock))
+}
+
+// The first that came of the puts that wait and are ready.
+fn first_ready(replica: &Replica<'_>) -> Option<Put>
+    ensures { (l : Limits) (r : ModelReplica) → Stands l r replica.now → result ≡ code_slot (first_of r.delivery r.delivery.waiting) }
+{
+    let clock = replica.clock_of();
+    (0..replica.waiting()).find_map(|i| ready_at(replica, i, &clock))
 }
 
 // Waiting puts are taken one after the other, always the first that came of those that are ready, as long as one is. They stay in their slots.
-fn take_waiting(mem: &mut [u64], at: Place)
-    requires { Ranged at }
-    ensures { (l : Limits) (m : Run Body) (s : Store) → Unswept l m s mem.old → Laid l m.now.me at → Unswept l (settled l.waiting_most m) s mem.new }
+fn take_waiting(replica: &mut Replica<'_>)
+    ensures same { Same replica.old replica.new }
+    ensures does { (l : Limits) (m : Run Body) (s : Store) → Unswept l m s replica.old → Unswept l (settled l.waiting_most m) s replica.new }
 {
-    let mut rounds = at.layout.waiting.count;
-    'again: while rounds > 0 {
-        rounds -= 1;
-        let clock = clock_of(mem);
-        let n = waiting(mem, at);
-        for i in 0..n {
-            let Some(p) = ready_at(mem, at, i, &clock) else {
-                continue;
-            };
-            take_other(mem, at, &p);
-            continue 'again;
-        }
-        break;
+    for _ in 0..replica.at.layout.waiting.count {
+        let Some(p) = first_ready(replica) else {
+            return;
+        };
+        take_other(replica, &p);
     }
 }
 
 // Then those that were taken leave the queue, all at once.
-pub fn settle(mem: &mut [u64], at: Place)
-    requires { Ranged at }
-    ensures { (l : Limits) (m : Run Body) (s : Store) → Unswept l m s mem.old → Laid l m.now.me at → Holds l (moved (settled l.waiting_most m) s) mem.new }
+pub fn settle(replica: &mut Replica<'_>)
+    ensures same { Same replica.old replica.new }
+    ensures does { (l : Limits) (m : Run Body) (s : Store) → Unswept l m s replica.old → Held l (moved (settled l.waiting_most m) s) replica.new }
 {
-    if waiting(mem, at) == 0 {
+    if replica.waiting() == 0 {
         return;
     }
-    take_waiting(mem, at);
-    clean(mem, at);
+    take_waiting(replica);
+    clean(replica);
 }
 
 // A put came: it is nothing new, or it waits, or it is taken and those that wait after it.
-pub fn deliver(mem: &mut [u64], at: Place, p: &Put)
-    requires { Ranged at }
-    ensures { (l : Limits) (r : Replica) (q : ModelPut Body) → Holds l r mem.old → Laid l r.delivery.me at → Sound l q → possible r.delivery (came q) ≡ true → queue_room l r.delivery (came q) ≡ true → p.now ≡ code_put q → Holds l (moved (delivered l q r.delivery) r.store) mem.new }
+pub fn deliver(replica: &mut Replica<'_>, p: &Put)
+    ensures same { Same replica.old replica.new }
+    ensures does { (l : Limits) (r : ModelReplica) (q : ModelPut Body) → Held l r replica.old → Sound l q → possible r.delivery (came q) ≡ true → queue_room l r.delivery (came q) ≡ true → p.now ≡ code_put q → Held l (moved (delivered l q r.delivery) r.store) replica.new }
 {
-    let again = nothing_new(mem, at, p);
-    if again {
+    if nothing_new(replica, p) {
         return;
     }
-    let early = !ready(mem, p);
-    if early {
-        enqueue(mem, at, p);
-        return;
+    if ready(replica, p) {
+        take_other(replica, p);
+        settle(replica);
+    } else {
+        enqueue(replica, p);
     }
-    take_other(mem, at, p);
-    settle(mem, at);
 }

@@ -34,7 +34,11 @@ holds l r r' m m' h s f = record { valid = record { fits = f.fits; shaped = s; f
 pub stands : (l : Limits) (r : Replica) (x : Lent) → Held l r x → Stands l r x
 stands l r x h = record { fitted = fitted l r x.mem.now h.holds; laid = h.laid }
 
--- where the parts lie stays
+-- the memory and the place stay
+pub still : (x y z : Lent) → Same x y → Same y z → Same x z
+still x y z s t = record { mem = t.mem ∙ s.mem; at = t.at ∙ s.at }
+
+-- and so does where the parts lie
 pub laid_still : (l : Limits) (i : ℕ) (x y : Lent) → Same x y → Laid l i x.at → Laid l i y.at
 laid_still l i x y s w = subst (Laid l i) (sym s.at) w
 

@@ -7,5 +7,5 @@ use Rattle.delivery.proofs.had.Goals as goal
 pub returns : goal.returns
 returns c =
     λ l r q f s e.
-    let k = c.clock_of-clock.ensures l r f in
+    let k = c.clock_of.ensures l r f in
     c.had_by.ensures ∙ (λ i. had (k i).counts (put_of (e i))) ∙ had_code r.delivery.clock q (omega (arith, f.fits.delivery.clock, f.fits.delivery.replicas)) s.fit

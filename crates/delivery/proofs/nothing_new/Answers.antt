@@ -8,11 +8,11 @@ use Rattle.delivery.proofs.Takes.{from_code}
 use Rattle.delivery.proofs.nothing_new.Goals as goal
 
 pub returns-then-had : goal.returns-then-had
-returns-then-had c = λ l r q f w s e. c.if-had.true ∙ sym (ap (λ b. b || is_in q r.delivery.waiting) (sym (c.had.ensures l r q f s e) ∙ c.if-had.true))
+returns-then-had c = λ l r q t s e. c.if-had.true ∙ sym (ap (λ b. b || is_in q r.delivery.waiting) (sym (c.had.ensures l r q t.fitted s e) ∙ c.if-had.true))
 
 pub returns-else-had : goal.returns-else-had
 returns-else-had c =
-    λ l r q f w s e.
+    λ l r q t s e.
     let b = ap (λ (p : Put). number (put_of p)) e ∙ number_code q s.fit in
-    c.is_waiting.ensures l r q f w (from_code _ q e) (c.number.ensures (omega (arith, s.fit.number)) ∙ b)
-    ∙ sym (ap (λ b. b || is_in q r.delivery.waiting) (sym (c.had.ensures l r q f s e) ∙ c.if-had.false))
+    c.is_waiting.ensures l r q t (from_code _ q e) (c.number.ensures (omega (arith, s.fit.number)) ∙ b)
+    ∙ sym (ap (λ b. b || is_in q r.delivery.waiting) (sym (c.had.ensures l r q t.fitted s e) ∙ c.if-had.false))
