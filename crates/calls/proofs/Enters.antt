@@ -5,12 +5,11 @@ use Rattle.model.specs.Limits.{Limits}
 use Rattle.model.specs.Replica.{Replica, Event, garbled, legible, in_range, event_number, first_failing, place}
 use Rattle.memory.specs.Layout.{code_limits, model_limits, total}
 use Rattle.memory.specs.declared.Limits.{Limits as CodeLimits}
-use Rattle.logs.specs.State.{Laid}
-use Rattle.logs.specs.declared.Place.{Place}
+use Rattle.logs.specs.State.{Laid, words_at}
+use Rattle.logs.specs.declared.place.Place.{Place}
 use Rattle.puts.specs.declared.event.Event.TheVariants.{Put, Get, Came, Has, Tell}
 use Rattle.wire.specs.Said.{Event as CodeEvent, event}
 use Rattle.calls.specs.Answered.{AllSupported, code_answer}
-use Rattle.calls.specs.Entered.{words_at}
 use Rattle.ranges.specs.Checked.{Handed}
 use Rattle.calls.specs.declared.Reason.{Reason}
 use Rattle.calls.specs.declared.Reason.TheVariants.{NoEvent, OutOfRange}

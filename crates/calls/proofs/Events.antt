@@ -1,8 +1,8 @@
 -- Each event, over what the code reads and does.
-use Rattle.std.proofs.Common.{◌≡◌, Ok, Err, ℕ, suc, ◌<◌, ◌≤◌, Bool, true, false, not, ◌||◌, eqb, ltb, List, [], ◌∷◌, length, Some, None, Option, sym, refl, ap, ◌∙◌, subst, arith, le-ltb, lt-ltb, eq-eqb, ne_eqb}
+use Rattle.std.proofs.Common.{◌≡◌, Ok, Err, ℕ, suc, ◌<◌, ◌≤◌, Bool, true, false, not, ◌||◌, eqb, ltb, [], ◌∷◌, length, Some, None, Option, sym, refl, ap, ◌∙◌, subst, arith, le-ltb, lt-ltb, eq-eqb, ne_eqb}
 use borrow.Author.Tests.{clash}
 use Rattle.model.specs.Limits.{Limits, count_bound}
-use Rattle.model.specs.Clock.{Clock, at}
+use Rattle.model.specs.Clock.{Clock}
 use Rattle.model.specs.Put.{Put, Body, had, good_body}
 use Rattle.model.specs.Delivery.{nothing_new, ready}
 use Rattle.model.specs.Replica.{Replica, Event, put, get, came, has, tell, legible, in_range, possible, log_room, queue_room, refusal, place, moved, moves, after}
@@ -14,8 +14,8 @@ use Rattle.puts.proofs.Padded.{had_code}
 use Rattle.memory.specs.Valid.{Sound, SoundSlot, Valid}
 use Rattle.memory.specs.State.{own_count}
 use Rattle.ranges.proofs.Tests.{both_hold, first_fails, rest_fails}
-use Rattle.logs.specs.State.{Holds, Laid}
-use Rattle.logs.specs.declared.Place.{Place}
+use Rattle.logs.specs.State.{Held}
+use Rattle.logs.specs.declared.Replica.{Replica as Lent}
 use Rattle.model.proofs.Replica.{after_accepted, after_keeps}
 use Rattle.calls.specs.Answered.{AllSupported, Answer, code_answer, code_says, one_put, reason}
 use Rattle.calls.specs.declared.Reason.{Reason}
@@ -33,10 +33,6 @@ slot_some l [] p h e = let z : ◌≡◌ {A = ℕ} 0 1 = cc in absurd (omega ari
 slot_some l (q ∷ qs) p h e =
     let same : p ≡ code_put q = cc in
     (λ i. q ∷ h.1 i) ∙ ap (λ x. x ∷ []) (sym (ap (one_put l.replicas) same ∙ back l q h.0))
-
--- the own count, where it was read
-pub own_is : (l : Limits) (r : Replica) (x : Place) (n : ℕ) → Valid l r → Laid l r.delivery.me x → (x.me < l.replicas → n ≡ at r.delivery.clock x.me) → n ≡ own_count r
-own_is l r x n v a f = f (subst (λ k. k < l.replicas) (sym a.me) v.fits.delivery.me) ∙ ap (at r.delivery.clock) a.me
 
 -- room for an own put in the log, and a number
 module _ (l : Limits) (r : Replica) (b : Body) (own held most : ℕ) (is_own : own ≡ own_count r) (is_held : held ≡ length r.delivery.log) (is_most : most ≡ l.log_most) where
@@ -179,9 +175,9 @@ pub accepted_as : (l : Limits) (r : Replica) (e : Event) (a : Answer) → a ≡ 
 accepted_as l r e a f z = ap Ok f ∙ sym (code_accepted l r e z)
 
 -- and what it did
-pub done_as : (l : Limits) (r : Replica) (e : Event) (m : List ℕ) → refusal l r e ≡ 0 → Holds l (moved (moves l r.delivery e) r.store) m → Holds l (after l r e) m
-done_as l r e m z h = subst (λ x. Holds l x m) (sym (after_accepted l r e z)) h
+pub done_as : (l : Limits) (r : Replica) (e : Event) (x : Lent) → refusal l r e ≡ 0 → Held l (moved (moves l r.delivery e) r.store) x → Held l (after l r e) x
+done_as l r e x z h = subst (λ s. Held l s x) (sym (after_accepted l r e z)) h
 
 -- an event that changes nothing
-pub reads_only : (l : Limits) (r : Replica) (e : Event) (m : List ℕ) → moved (moves l r.delivery e) r.store ≡ r → Holds l r m → Holds l (after l r e) m
-reads_only l r e m same h = after_keeps (λ x. Holds l x m) l r e h (subst (λ x. Holds l x m) (sym same) h)
+pub reads_only : (l : Limits) (r : Replica) (e : Event) (x : Lent) → moved (moves l r.delivery e) r.store ≡ r → Held l r x → Held l (after l r e) x
+reads_only l r e x same h = after_keeps (λ s. Held l s x) l r e h (subst (λ s. Held l s x) (sym same) h)

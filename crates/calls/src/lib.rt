@@ -1,30 +1,26 @@
 // A replica: what each event is answered or why it is refused, and what it does to the replica in its lent memory.
 #![tactic(auto)]
 
-ghost use Rattle.logs.specs.State.{Holds, Laid, Ranged};
+ghost use Rattle.logs.specs.State.{Held, Same, words_at};
 ghost use Rattle.model.specs.Clock.{Clock as ModelClock};
 ghost use Rattle.model.specs.Limits.{Limits as ModelLimits};
 ghost use Rattle.memory.specs.Image.{encode};
 ghost use Rattle.memory.specs.Layout.{Room, limits_at, me_at};
 ghost use Rattle.memory.specs.Valid.{Sound, Valid};
-ghost use Rattle.model.specs.Program.{readable};
 ghost use Rattle.model.specs.Put.{Body, Put as ModelPut, good_body, text as text_of, value_of};
-ghost use Rattle.model.specs.Replica.{Event as ModelEvent, Replica, after, came as came_of, get as get_of, has as has_of, in_range as is_in_range, legible, log_room, possible, put as put_of, queue_room as has_queue_room, tell as tell_of};
+ghost use Rattle.model.specs.Replica.{Event as ModelEvent, Replica as ModelReplica, after, came as came_of, get as get_of, has as has_of, in_range as is_in_range, log_room, possible, put as put_of, queue_room as has_queue_room, tell as tell_of};
 ghost use Rattle.puts.specs.Values.{Bytes, code_clock, code_put, code_text};
-ghost use Rattle.ranges.specs.Checked.{code_event};
 ghost use Rattle.calls.specs.Answered.{AllSupported, AnswerSaid, Passes, code_answer};
-ghost use Rattle.calls.specs.Entered.{Entered, words_at};
+ghost use Rattle.calls.specs.Entered.{Comes, Entered};
 ghost use Rattle.calls.specs.declared.Reason.TheVariants.{Impossible, LogFull, NoEvent, OutOfRange, QueueFull};
 ghost use Rattle.std.specs.Prelude.{◌≡◌, ℕ, ◌<◌, ◌≤◌, true, List, ◌++◌, IfOk, Ok, Err, length};
 
 use delivery::{deliver, had, nothing_new, ready, stamp, take_own};
-use logs::{Place, clock_of, count_of, learn, logged, value_at, waiting};
+use logs::{Place, Replica};
 use memory::{Refusal as Foreign, limits_of};
-use puts::words::SLOT;
 use puts::{Clock, Put, Text};
 use ranges::{Checked, in_range};
-use slots::HEADER;
-use wire::event::Refusal as Garbled;
+use wire::garbled::Garbled;
 use wire::read::read_event;
 
 // Why an event is refused.
@@ -47,7 +43,7 @@ impl From<Garbled> for Reason {
 
     fn from(garbled: Garbled) -> Reason {
         Reason::NoEvent {
-            place: garbled.place,
+            place: garbled.place as u64,
         }
     }
 }
@@ -73,19 +69,11 @@ pub enum Answer<R> {
 // Each count, and the number of a put, is below this.
 const COUNT_BOUND: u64 = 4294967296;
 
-// How many words a replica takes whose parts lie so.
-pub fn words(at: Place) -> usize
-    requires { Ranged at }
-    ensures { result ≡ words_at at }
-{
-    HEADER + SLOT * (at.layout.waiting.base + at.layout.waiting.count)
-}
-
 // The event that the bytes are at the replica whose memory this is, with the place of its parts there; or why it is refused before anything is read but the header.
 pub fn enter(mem: &[u64], bytes: &[u8]) -> Result<(Place, Checked), Reason>
-    ensures image { (l : ModelLimits) (r : Replica) (rest : List ℕ) → AllSupported l → Valid l r → mem.now ≡ encode l r ++ rest → Entered l r bytes.now result }
+    ensures image { (l : ModelLimits) (r : ModelReplica) (rest : List ℕ) → AllSupported l → Valid l r → mem.now ≡ encode l r ++ rest → Entered l r bytes.now result }
     ensures foreign { (Room (limits_at mem.now) (me_at mem.now) mem.now → ⊥) → result ≡ Err OutOfRange }
-    ensures room { IfOk result (λ x. Ranged x.0 × (words_at x.0 ≤ length mem.now) × Room (limits_at mem.now) (me_at mem.now) mem.now) }
+    ensures room { IfOk result (λ x. (words_at x.0 ≤ length mem.now) × Room (limits_at mem.now) (me_at mem.now) mem.now) }
 {
     let (limits, me) = limits_of(mem)?;
     let event = read_event(bytes)?;
@@ -94,126 +82,128 @@ pub fn enter(mem: &[u64], bytes: &[u8]) -> Result<(Place, Checked), Reason>
 }
 
 // One more own put has its room and its number.
-fn own_room(mem: &[u64], at: Place) -> Result<(), Reason>
-    ensures { (l : ModelLimits) (r : Replica) (b : Body) → Holds l r mem.now → Laid l r.delivery.me at → Passes (log_room l r.delivery (put_of b)) LogFull result }
+fn own_room(replica: &Replica<'_>) -> Result<(), Reason>
+    ensures { (l : ModelLimits) (r : ModelReplica) (b : Body) → Held l r replica.now → Passes (log_room l r.delivery (put_of b)) LogFull result }
 {
-    if logged(mem, at) >= at.layout.log.count || count_of(mem, at.me) >= COUNT_BOUND - 1 {
+    if replica.logged() >= replica.at.layout.log.count || replica.own_count() >= COUNT_BOUND - 1 {
         return Err(Reason::LogFull);
     }
     Ok(())
 }
 
 // A put is made here.
-fn put_answer(mem: &[u64], at: Place, key: u64, value: Text) -> Result<Answer<Clock>, Reason>
-    ensures { (l : ModelLimits) (r : Replica) (v : List ℕ) → Holds l r mem.now → Laid l r.delivery.me at → AllSupported l → value ≡ code_text v → good_body l (text_of key v) ≡ true → result ≡ code_answer l r (put_of (text_of key v)) }
+fn put_answer(replica: &Replica<'_>, key: u64, value: Text) -> Result<Answer<Clock>, Reason>
+    ensures { (l : ModelLimits) (r : ModelReplica) (v : List ℕ) → Held l r replica.now → AllSupported l → value ≡ code_text v → good_body l (text_of key v) ≡ true → result ≡ code_answer l r (put_of (text_of key v)) }
 {
-    own_room(mem, at)?;
+    own_room(replica)?;
     Ok(Answer::Made {
-        put: stamp(mem, at, key, value),
+        put: stamp(replica, key, value),
     })
 }
 
 // The put that came can be: one of this replica's own was made here.
-fn possible_put(mem: &[u64], at: Place, p: &Put) -> Result<(), Reason>
-    ensures { (l : ModelLimits) (r : Replica) (q : ModelPut Body) → Holds l r mem.now → Laid l r.delivery.me at → Sound l q → p.now ≡ code_put q → Passes (possible r.delivery (came_of q)) Impossible result }
+fn possible_put(replica: &Replica<'_>, p: &Put) -> Result<(), Reason>
+    ensures { (l : ModelLimits) (r : ModelReplica) (q : ModelPut Body) → Held l r replica.now → Sound l q → p.now ≡ code_put q → Passes (possible r.delivery (came_of q)) Impossible result }
 {
-    if p.from == at.me as u64 && !had(mem, p) {
+    if p.from == replica.at.me as u64 && !had(replica, p) {
         return Err(Reason::Impossible);
     }
     Ok(())
 }
 
 // The put that came need not wait, or finds room.
-fn queue_room(mem: &[u64], at: Place, p: &Put) -> Result<(), Reason>
-    requires { Ranged at }
-    ensures { (l : ModelLimits) (r : Replica) (q : ModelPut Body) → Holds l r mem.now → Laid l r.delivery.me at → Sound l q → p.now ≡ code_put q → Passes (has_queue_room l r.delivery (came_of q)) QueueFull result }
+fn queue_room(replica: &Replica<'_>, p: &Put) -> Result<(), Reason>
+    ensures { (l : ModelLimits) (r : ModelReplica) (q : ModelPut Body) → Held l r replica.now → Sound l q → p.now ≡ code_put q → Passes (has_queue_room l r.delivery (came_of q)) QueueFull result }
 {
-    if waiting(mem, at) < at.layout.waiting.count || nothing_new(mem, at, p) || ready(mem, p) {
+    if replica.waiting() < replica.at.layout.waiting.count
+        || nothing_new(replica, p)
+        || ready(replica, p)
+    {
         return Ok(());
     }
     Err(Reason::QueueFull)
 }
 
 // A put came.
-fn came_answer(mem: &[u64], at: Place, p: &Put) -> Result<Answer<Clock>, Reason>
-    requires { Ranged at }
-    ensures { (l : ModelLimits) (r : Replica) (q : ModelPut Body) → Holds l r mem.now → Laid l r.delivery.me at → AllSupported l → Sound l q → is_in_range l (came_of q) ≡ true → p.now ≡ code_put q → result ≡ code_answer l r (came_of q) }
+fn came_answer(replica: &Replica<'_>, p: &Put) -> Result<Answer<Clock>, Reason>
+    ensures { (l : ModelLimits) (r : ModelReplica) (q : ModelPut Body) → Held l r replica.now → AllSupported l → Sound l q → is_in_range l (came_of q) ≡ true → p.now ≡ code_put q → result ≡ code_answer l r (came_of q) }
 {
-    possible_put(mem, at, p)?;
-    queue_room(mem, at, p)?;
+    possible_put(replica, p)?;
+    queue_room(replica, p)?;
     Ok(Answer::Came)
 }
 
 // A clock that was told has no more of this replica's puts than it made.
-fn possible_clock(mem: &[u64], at: Place, clock: &Clock) -> Result<(), Reason>
-    ensures { (l : ModelLimits) (r : Replica) (j : ℕ) (c : ModelClock) → Holds l r mem.now → Laid l r.delivery.me at → length c ≡ l.replicas → clock.now ≡ code_clock c → Passes (possible r.delivery (has_of j c)) Impossible result }
+fn possible_clock(replica: &Replica<'_>, clock: &Clock) -> Result<(), Reason>
+    ensures { (l : ModelLimits) (r : ModelReplica) (j : ℕ) (c : ModelClock) → Held l r replica.now → length c ≡ l.replicas → clock.now ≡ code_clock c → Passes (possible r.delivery (has_of j c)) Impossible result }
 {
-    if clock.count(at.me as u64) > count_of(mem, at.me) {
+    if clock.count(replica.at.me as u64) > replica.own_count() {
         return Err(Reason::Impossible);
     }
     Ok(())
 }
 
 // A replica told its clock. The reply is read off it later.
-fn has_answer(mem: &[u64], at: Place, clock: &Clock) -> Result<Answer<Clock>, Reason>
-    ensures { (l : ModelLimits) (r : Replica) (j : ℕ) (c : ModelClock) → Holds l r mem.now → Laid l r.delivery.me at → AllSupported l → is_in_range l (has_of j c) ≡ true → clock.now ≡ code_clock c → result ≡ code_answer l r (has_of j c) }
+fn has_answer(replica: &Replica<'_>, clock: &Clock) -> Result<Answer<Clock>, Reason>
+    ensures { (l : ModelLimits) (r : ModelReplica) (j : ℕ) (c : ModelClock) → Held l r replica.now → AllSupported l → is_in_range l (has_of j c) ≡ true → clock.now ≡ code_clock c → result ≡ code_answer l r (has_of j c) }
 {
-    possible_clock(mem, at, clock)?;
+    possible_clock(replica, clock)?;
     Ok(Answer::Reply { to: *clock })
 }
 
 // What stands at a key.
-fn get_answer(mem: &[u64], at: Place, key: u64) -> Answer<Clock>
-    requires { Ranged at }
-    ensures { (l : ModelLimits) (r : Replica) → Holds l r mem.now → AllSupported l → key < l.keys → Ok result ≡ code_answer l r (get_of key) }
+fn get_answer(replica: &Replica<'_>, key: u64) -> Answer<Clock>
+    ensures { (l : ModelLimits) (r : ModelReplica) → Held l r replica.now → AllSupported l → key < l.keys → Ok result ≡ code_answer l r (get_of key) }
 {
     Answer::Value {
-        put: value_at(mem, at, key),
+        put: replica.value_at(key),
     }
 }
 
 // Its clock.
-fn tell_answer(mem: &[u64]) -> Answer<Clock>
-    ensures { (l : ModelLimits) (r : Replica) → Holds l r mem.now → AllSupported l → Ok result ≡ code_answer l r tell_of }
+fn tell_answer(replica: &Replica<'_>) -> Answer<Clock>
+    ensures { (l : ModelLimits) (r : ModelReplica) → Held l r replica.now → AllSupported l → Ok result ≡ code_answer l r tell_of }
 {
     Answer::Clock {
-        clock: clock_of(mem),
+        clock: replica.clock_of(),
     }
 }
 
 // What an event whose numbers are in range is answered, or why it is refused. Nothing changes.
-pub fn answer_to(mem: &[u64], at: Place, event: &Checked) -> Result<Answer<Clock>, Reason>
-    requires { Ranged at }
-    ensures { (l : ModelLimits) (r : Replica) (e : ModelEvent) → Holds l r mem.now → Laid l r.delivery.me at → AllSupported l → legible e ≡ true → readable e ≡ true → is_in_range l e ≡ true → event.now ≡ code_event e → result ≡ code_answer l r e }
+pub fn answer_to(replica: &Replica<'_>, event: &Checked) -> Result<Answer<Clock>, Reason>
+    ensures { (l : ModelLimits) (r : ModelReplica) (e : ModelEvent) → Held l r replica.now → AllSupported l → Comes l e event.now → result ≡ code_answer l r e }
 {
     match event {
-        Checked::Put { key, value } => put_answer(mem, at, *key, *value),
-        Checked::Get { key } => Ok(get_answer(mem, at, *key)),
-        Checked::Came { put } => came_answer(mem, at, put),
-        Checked::Has { replica: _, clock } => has_answer(mem, at, clock),
-        Checked::Tell => Ok(tell_answer(mem)),
+        Checked::Put { key, value } => put_answer(replica, *key, *value),
+        Checked::Get { key } => Ok(get_answer(replica, *key)),
+        Checked::Came { put } => came_answer(replica, put),
+        Checked::Has { replica: _, clock } => has_answer(replica, clock),
+        Checked::Tell => Ok(tell_answer(replica)),
     }
 }
 
 // A put that was made is taken.
-fn apply_put(mem: &mut [u64], at: Place, answer: &Answer<Clock>)
-    requires { Ranged at }
-    ensures { (l : ModelLimits) (r : Replica) (b : Body) → Holds l r mem.old → Laid l r.delivery.me at → Bytes (value_of b) → good_body l b ≡ true → Ok answer.now ≡ code_answer l r (put_of b) → Holds l (after l r (put_of b)) mem.new }
+fn apply_put(replica: &mut Replica<'_>, answer: &Answer<Clock>)
+    ensures same { Same replica.old replica.new }
+    ensures does { (l : ModelLimits) (r : ModelReplica) (b : Body) → Held l r replica.old → Bytes (value_of b) → good_body l b ≡ true → Ok answer.now ≡ code_answer l r (put_of b) → Held l (after l r (put_of b)) replica.new }
 {
     if let Answer::Made { put } = answer {
-        take_own(mem, at, put);
+        take_own(replica, put);
     }
 }
 
 // What an event does that is accepted and answered so.
-pub fn apply(mem: &mut [u64], at: Place, event: &Checked, answer: &Answer<Clock>)
-    requires { Ranged at }
-    ensures { (l : ModelLimits) (r : Replica) (e : ModelEvent) → Holds l r mem.old → Laid l r.delivery.me at → legible e ≡ true → readable e ≡ true → is_in_range l e ≡ true → event.now ≡ code_event e → Ok answer.now ≡ code_answer l r e → Holds l (after l r e) mem.new }
+pub fn apply(replica: &mut Replica<'_>, event: &Checked, answer: &Answer<Clock>)
+    ensures same { Same replica.old replica.new }
+    ensures does { (l : ModelLimits) (r : ModelReplica) (e : ModelEvent) → Held l r replica.old → Comes l e event.now → Ok answer.now ≡ code_answer l r e → Held l (after l r e) replica.new }
 {
     match event {
-        Checked::Put { key: _, value: _ } => apply_put(mem, at, answer),
-        Checked::Came { put } => deliver(mem, at, put),
-        Checked::Has { replica, clock } => learn(mem, at, *replica as usize, clock),
+        Checked::Put { key: _, value: _ } => apply_put(replica, answer),
+        Checked::Came { put } => deliver(replica, put),
+        Checked::Has {
+            replica: from,
+            clock,
+        } => replica.learn(*from as usize, clock),
         Checked::Get { key: _ } => {}
         Checked::Tell => {}
     }

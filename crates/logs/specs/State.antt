@@ -1,7 +1,9 @@
 -- A state in its memory, and where its parts lie. Definitions only.
-use Rattle.std.specs.Prelude.{◌≡◌, ℕ, ◌+◌, List, take, drop}
+use Rattle.std.specs.Prelude.{◌≡◌, ℕ, ◌+◌, ◌*◌, List, take, drop}
 use Rattle.model.specs.Limits.{Limits}
 use Rattle.model.specs.Replica.{Replica as ModelReplica}
+use Rattle.puts.specs.Words.{slot_size}
+use Rattle.slots.specs.Image.{header_size}
 use Rattle.memory.specs.Image.{encode}
 use Rattle.memory.specs.Valid.{Fits, Valid}
 use Rattle.logs.specs.declared.place.Place.{Place}
@@ -13,6 +15,10 @@ pub record Laid (l : Limits) (i : ℕ) (x : Place) : Type 0 where
   pub me : x.me ≡ i
   pub log : (x.layout.log.base ≡ l.keys) × (x.layout.log.count ≡ l.log_most)
   pub waiting : (x.layout.waiting.base ≡ l.keys + l.log_most) × (x.layout.waiting.count ≡ l.waiting_most)
+
+-- the words that it takes
+abbrev pub words_at : Place → ℕ
+words_at x = header_size + slot_size * (x.layout.waiting.base + x.layout.waiting.count)
 
 -- MEMORY THAT IS THE IMAGE of a state each part of which has its place; the log may be between two shapes
 pub record Fitted (l : Limits) (r : ModelReplica) (m : List ℕ) : Type 0 where

@@ -2,6 +2,8 @@
 ghost use Rattle.logs.specs.Ranged.{Ranged};
 
 use memory::{Layout, Limits};
+use puts::words::SLOT;
+use slots::HEADER;
 
 // Where the parts of a replica lie, how many replicas there are, and which this is.
 #[derive(Clone, Copy)]
@@ -16,7 +18,7 @@ impl Place {
     ghost use Rattle.std.specs.Prelude.{◌≡◌, ◌+◌, ◌%◌, ◌<◌, ◌≤◌};
     ghost use Rattle.model.specs.Limits.{Limits as ModelLimits};
     ghost use Rattle.memory.specs.Layout.{code_limits, InRange};
-    ghost use Rattle.logs.specs.State.{Laid};
+    ghost use Rattle.logs.specs.State.{Laid, words_at};
 
     pub fn new(limits: Limits, me: usize) -> Place
         requires { InRange limits }
@@ -27,6 +29,13 @@ impl Place {
             replicas: limits.replicas,
             me,
         }
+    }
+
+    // How many words the replica takes.
+    pub fn words(self) -> usize
+        ensures { result ≡ words_at self }
+    {
+        HEADER + SLOT * (self.layout.waiting.base + self.layout.waiting.count)
     }
 
     // The slot of a key.

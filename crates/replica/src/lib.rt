@@ -1,22 +1,22 @@
 // A replica by value: an event's bytes in, its answer as a value out.
 #![tactic(auto)]
 
-ghost use Rattle.logs.specs.State.{Holds, Laid, Ranged};
+ghost use Rattle.logs.specs.State.{Held, Holds, Laid};
 ghost use Rattle.model.specs.Clock.{Clock as ModelClock};
 ghost use Rattle.model.specs.Delivery.{reply as reply_of};
 ghost use Rattle.model.specs.Limits.{Limits as ModelLimits};
 ghost use Rattle.model.specs.Program.{AnswersRight, MemoryBounded, Program, RefusalKeepsMemory, readable};
-ghost use Rattle.model.specs.Replica.{Event as ModelEvent, Replica, after, answer as answer_of, in_range as is_in_range, legible};
+ghost use Rattle.model.specs.Replica.{Event as ModelEvent, Replica as ModelReplica, after, answer as answer_of, in_range as is_in_range};
 ghost use Rattle.puts.specs.Values.{code_clock};
-ghost use Rattle.ranges.specs.Checked.{code_event};
+ghost use Rattle.calls.specs.Entered.{Comes};
 ghost use Rattle.calls.specs.Answered.{AllSupported, code_answer};
 ghost use Rattle.std.specs.Prelude.{◌≡◌, true, length, Ok};
 ghost use Rattle.replica.specs.Answered.{says_in, some_puts};
 ghost use Rattle.replica.specs.Running.{Called, Runs, all_events};
 
-use calls::{answer_to, apply, enter, words};
+use calls::{answer_to, apply, enter};
 pub use calls::{Answer, Reason};
-use logs::{Place, REPLY_MOST, reply_at};
+use logs::{Place, REPLY_MOST, Replica};
 use puts::{Clock, Put};
 use ranges::Checked;
 use std::array;
@@ -25,23 +25,21 @@ use std::array;
 pub type Reply = [Option<Put>; REPLY_MOST];
 
 // The logged puts that a clock lacks.
-fn reply(mem: &[u64], at: Place, clock: &Clock) -> Reply
-    requires { Ranged at }
-    ensures { (l : ModelLimits) (r : Replica) (c : ModelClock) → Holds l r mem.now → Laid l r.delivery.me at → length c ≡ l.replicas → clock.now ≡ code_clock c → some_puts l.replicas result ≡ reply_of c r.delivery }
+fn reply(replica: &Replica<'_>, clock: &Clock) -> Reply
+    ensures { (l : ModelLimits) (r : ModelReplica) (c : ModelClock) → Held l r replica.now → length c ≡ l.replicas → clock.now ≡ code_clock c → some_puts l.replicas result ≡ reply_of c r.delivery }
 {
-    array::from_fn(|i| reply_at(mem, at, clock, i))
+    array::from_fn(|i| replica.reply_at(clock, i))
 }
 
 // The answer with its reply read, from the state before the event.
-fn replied(mem: &[u64], at: Place, answer: &Answer<Clock>) -> Answer<Reply>
-    requires { Ranged at }
-    ensures { (l : ModelLimits) (r : Replica) (e : ModelEvent) → Holds l r mem.now → Laid l r.delivery.me at → readable e ≡ true → is_in_range l e ≡ true → Ok answer.now ≡ code_answer l r e → says_in l.replicas (Ok result) ≡ answer_of l r e }
+fn replied(replica: &Replica<'_>, answer: &Answer<Clock>) -> Answer<Reply>
+    ensures { (l : ModelLimits) (r : ModelReplica) (e : ModelEvent) → Held l r replica.now → readable e ≡ true → is_in_range l e ≡ true → Ok answer.now ≡ code_answer l r e → says_in l.replicas (Ok result) ≡ answer_of l r e }
 {
     match answer {
         Answer::Made { put } => Answer::Made { put: *put },
         Answer::Came => Answer::Came,
         Answer::Reply { to } => Answer::Reply {
-            to: reply(mem, at, to),
+            to: reply(replica, to),
         },
         Answer::Value { put } => Answer::Value { put: *put },
         Answer::Clock { clock } => Answer::Clock { clock: *clock },
@@ -50,13 +48,13 @@ fn replied(mem: &[u64], at: Place, answer: &Answer<Clock>) -> Answer<Reply>
 
 // An event whose numbers are in range happens.
 fn act(mem: &mut [u64], at: Place, event: &Checked) -> Result<Answer<Reply>, Reason>
-    requires { Ranged at }
-    ensures holds { (l : ModelLimits) (r : Replica) (e : ModelEvent) → Holds l r mem.old → Laid l r.delivery.me at → AllSupported l → legible e ≡ true → readable e ≡ true → is_in_range l e ≡ true → event.now ≡ code_event e → Holds l (after l r e) mem.new }
-    ensures says { (l : ModelLimits) (r : Replica) (e : ModelEvent) → Holds l r mem.old → Laid l r.delivery.me at → AllSupported l → legible e ≡ true → readable e ≡ true → is_in_range l e ≡ true → event.now ≡ code_event e → says_in l.replicas result ≡ answer_of l r e }
+    ensures does { (l : ModelLimits) (r : ModelReplica) (e : ModelEvent) → Holds l r mem.old → Laid l r.delivery.me at → AllSupported l → Comes l e event.now → Holds l (after l r e) mem.new }
+    ensures says { (l : ModelLimits) (r : ModelReplica) (e : ModelEvent) → Holds l r mem.old → Laid l r.delivery.me at → AllSupported l → Comes l e event.now → says_in l.replicas result ≡ answer_of l r e }
 {
-    let answer = answer_to(mem, at, event)?;
-    let said = replied(mem, at, &answer);
-    apply(mem, at, event, &answer);
+    let mut replica = Replica { mem, at };
+    let answer = answer_to(&replica, event)?;
+    let said = replied(&replica, &answer);
+    apply(&mut replica, event, &answer);
     Ok(said)
 }
 
@@ -65,7 +63,7 @@ pub fn step(mem: &mut [u64], event: &[u8]) -> Result<Answer<Reply>, Reason>
     ensures { Called mem.old event.now mem.new result }
 {
     let (at, event) = enter(mem, event)?;
-    act(&mut mem[..words(at)], at, &event)
+    act(&mut mem[..at.words()], at, &event)
 }
 
 // WHAT IS PROVED OF EVERY RUN. After any events each answer is the one that the rules give.

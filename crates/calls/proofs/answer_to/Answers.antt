@@ -8,18 +8,18 @@ use Rattle.calls.proofs.Cases.{came_bytes, came_case, get_case, get_good, put_ca
 use Rattle.calls.proofs.answer_to.Goals as goal
 
 pub returns-in-Put : goal.returns-in-Put
-returns-in-Put c = λ l r e h x all leg rd inr ev.
+returns-in-Put c = λ l r e h all k.
     put_case (λ y. in_range l y ≡ true → c.put_answer.result ≡ code_answer l r y) c.in-Put.key c.in-Put.value
-    (λ v t inr'. c.put_answer.ensures l r v h x all t (put_good l (text c.in-Put.key v) inr')) e (sym c.in-Put.is ∙ ev) inr
+    (λ v t inr'. c.put_answer.ensures l r v h all t (put_good l (text c.in-Put.key v) inr')) e (sym c.in-Put.is ∙ k.event) k.in_range
 
 pub returns-in-Get : goal.returns-in-Get
-returns-in-Get c = λ l r e h x all leg rd inr ev.
-    get_case (λ y. in_range l y ≡ true → Ok c.get_answer.result ≡ code_answer l r y) c.in-Get.key (λ inr'. c.get_answer.ensures l r h all (get_good l c.in-Get.key inr')) e (sym c.in-Get.is ∙ ev) inr
+returns-in-Get c = λ l r e h all k.
+    get_case (λ y. in_range l y ≡ true → Ok c.get_answer.result ≡ code_answer l r y) c.in-Get.key (λ inr'. c.get_answer.ensures l r h all (get_good l c.in-Get.key inr')) e (sym c.in-Get.is ∙ k.event) k.in_range
 
 pub returns-in-Came : goal.returns-in-Came
-returns-in-Came c = λ l r e h x all leg rd inr ev.
+returns-in-Came c = λ l r e h all k.
     came_case (λ y. readable y ≡ true → in_range l y ≡ true → c.came_answer.result ≡ code_answer l r y) c.in-Came.put
-    (λ q t rd' inr'. c.came_answer.ensures l r q h x all (came_sound l q h.valid.few.replicas.1 (came_bytes q rd') inr') inr' t) e (sym c.in-Came.is ∙ ev) rd inr
+    (λ q t rd' inr'. c.came_answer.ensures l r q h all (came_sound l q h.holds.valid.few.replicas.1 (came_bytes q rd') inr') inr' t) e (sym c.in-Came.is ∙ k.event) k.carried k.in_range
 
 pub returns-in-Tell : goal.returns-in-Tell
-returns-in-Tell c = λ l r e h x all leg rd inr ev. tell_case (λ y. Ok c.tell_answer.result ≡ code_answer l r y) (c.tell_answer.ensures l r h all) e leg (sym c.in-Tell.is ∙ ev)
+returns-in-Tell c = λ l r e h all k. tell_case (λ y. Ok c.tell_answer.result ≡ code_answer l r y) (c.tell_answer.ensures l r h all) e k.legible (sym c.in-Tell.is ∙ k.event)

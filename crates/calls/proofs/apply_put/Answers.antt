@@ -11,12 +11,15 @@ use Rattle.calls.proofs.apply_put.Goals as goal
 
 pub returns-in-Made : goal.returns-in-Made
 unfolding moves
-returns-in-Made c = λ l r b h x bytes good a.
-    let y = was_accepted l r (put b) c.args.answer.now a in
-    let d = r.delivery in
-    let room = room_of l r b (passed l r (put b) y.0).has_log_room in
-    let same : c.in-Made.put ≡ code_put (stamped b d) = cc in
-    done_as l r (put b) _ y.0 (c.take_own.ensures l r (stamped b d) h x (stamped_sound l r b h.valid.fits bytes good room.1) (own_ready b d) refl room.0 same)
+returns-in-Made c = record {
+  same = c.take_own.ensures.same;
+  does = λ l r b h bytes good a.
+      let y = was_accepted l r (put b) c.args.answer.now a in
+      let d = r.delivery in
+      let room = room_of l r b (passed l r (put b) y.0).has_log_room in
+      let same : c.in-Made.put ≡ code_put (stamped b d) = cc in
+      done_as l r (put b) _ y.0 (c.take_own.ensures.does l r (stamped b d) h (stamped_sound l r b h.holds.valid.fits bytes good room.1) (own_ready b d) refl room.0 same);
+}
 
 pub returns-in_default : goal.returns-in_default
-returns-in_default c = λ l r b h x bytes good a. absurd (c.in_default.not-Made _ (was_accepted l r (put b) c.args.answer.now a).1)
+returns-in_default c = record { same = record { mem = refl; at = refl }; does = λ l r b h bytes good a. absurd (c.in_default.not-Made _ (was_accepted l r (put b) c.args.answer.now a).1) }

@@ -30,15 +30,16 @@ returns-clause-image c = λ l r rest all v e.
     let good = was_handed _ c.in_range.result _ c.in_ok-event-2.event (sym c.ok_or.ensures.value ∙ c.in_ok-event-2.was) (c.in_range.ensures l same.0 c.in_ok-limits.ensures.any.1.limits) in
     record {
       laid = subst (λ k. Laid l k c.new.result) same.1 (c.new.ensures.laid l (sym same.0));
-      legible = ap legible (sym is) ∙ (read_legible c.in_ok-event.event).0;
-      carried = ap readable (sym is) ∙ c.in_ok-event.ensures.right.carried;
-      in_range = ap (in_range l) (sym is) ∙ good.0;
-      event = good.1 ∙ ap code_event is;
+      comes = record {
+        legible = ap legible (sym is) ∙ (read_legible c.in_ok-event.event).0;
+        carried = ap readable (sym is) ∙ c.in_ok-event.ensures.right.carried;
+        in_range = ap (in_range l) (sym is) ∙ good.0;
+        event = good.1 ∙ ap code_event is;
+      };
     }
 
 pub returns-clause-room : goal.returns-clause-room
 returns-clause-room c = (
-  c.new.ensures.ranged,
   omega (arith, words_are c.in_ok-limits.limits c.in_ok-limits.me c.new.result c.new.ensures.laid, c.in_ok-limits.ensures.any.1.words),
   subst (λ (x : Limits × _). Room x.0 x.1 c.args.mem.now) c.in_ok-limits.ensures.any.0 c.in_ok-limits.ensures.any.1,
 )

@@ -6,4 +6,4 @@ use Rattle.calls.proofs.Events.{accepted_as, gets}
 use Rattle.calls.proofs.get_answer.Goals as goal
 
 pub returns : goal.returns
-returns c = λ l r h all b. accepted_as l r (get c.args.key) _ (ap Value (c.value_at.ensures l r (fitted l r c.args.mem.now h) b)) (gets l r all c.args.key b)
+returns c = λ l r k all b. accepted_as l r (get c.args.key) _ (ap Value (c.value_at.ensures l r (fitted l r c.args.replica.now.mem.now k.holds) b)) (gets l r all c.args.key b)

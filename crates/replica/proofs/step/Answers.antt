@@ -27,11 +27,7 @@ returns c = record {
       let size : c.words.result ≡ words l = omega (arith, c.words.ensures, x.laid.waiting.0, x.laid.waiting.1) in
       let parts = lent l r c.args.mem.now rest c.words.result v.fits size e in
       let before : Holds l r (take c.words.result c.args.mem.now) = record { valid = v; mem = parts.0 } in
-      let after = c.act.ensures.holds l r (read c.args.event.now) before x.laid all x.legible x.carried x.in_range x.event in
-      record {
-        valid = after.valid;
-        mem = (λ i. after.mem i ++ parts.1 i);
-        says = c.act.ensures.says l r (read c.args.event.now) before x.laid all x.legible x.carried x.in_range x.event;
-      };
-  foreign = λ f. absurd (f c.in_ok-at.ensures.room.2);
+      let after = c.act.ensures.does l r (read c.args.event.now) before x.laid all x.comes in
+      record { valid = after.valid; mem = (λ i. after.mem i ++ parts.1 i); says = c.act.ensures.says l r (read c.args.event.now) before x.laid all x.comes };
+  foreign = λ f. absurd (f c.in_ok-at.ensures.room.1);
 }
