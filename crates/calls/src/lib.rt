@@ -10,7 +10,7 @@ ghost use Rattle.memory.specs.Valid.{Sound, Valid};
 ghost use Rattle.model.specs.Put.{Body, Put as ModelPut, good_body, text as text_of, value_of};
 ghost use Rattle.model.specs.Replica.{Event as ModelEvent, Replica as ModelReplica, after, came as came_of, get as get_of, has as has_of, in_range as is_in_range, log_room, possible, put as put_of, queue_room as has_queue_room, tell as tell_of};
 ghost use Rattle.puts.specs.Values.{Bytes, code_clock, code_put, code_text};
-ghost use Rattle.calls.specs.Answered.{AllSupported, AnswerSaid, Passes, code_answer};
+ghost use Rattle.calls.specs.Answered.{AllSupported, AnswerSaid, Passes, code_answer, number_of, place_of};
 ghost use Rattle.calls.specs.Entered.{Comes, Entered};
 ghost use Rattle.calls.specs.declared.Reason.TheVariants.{Impossible, LogFull, NoEvent, OutOfRange, QueueFull};
 ghost use Rattle.std.specs.Prelude.{◌≡◌, ℕ, ◌<◌, ◌≤◌, true, List, ◌++◌, IfOk, Ok, Err, length};
@@ -18,6 +18,7 @@ ghost use Rattle.std.specs.Prelude.{◌≡◌, ℕ, ◌<◌, ◌≤◌, true, Li
 use delivery::{deliver, had, nothing_new, ready, stamp, take_own};
 use logs::{Place, Replica};
 use memory::{Refusal as Foreign, limits_of};
+use puts::event::Refusal;
 use puts::{Clock, Put, Text};
 use ranges::{Checked, in_range};
 use wire::garbled::Garbled;
@@ -36,6 +37,22 @@ pub enum Reason {
     LogFull,
     // The put would have to wait, and the queue has no room for it.
     QueueFull,
+}
+
+// As it stands in the bytes of an answer.
+impl From<Reason> for Refusal {
+    ghost from_gives = { λ w f. (f.number ≡ number_of w) × (f.place ≡ place_of w) };
+
+    fn from(reason: Reason) -> Refusal {
+        let (number, place) = match reason {
+            Reason::NoEvent { place } => (1, place),
+            Reason::OutOfRange => (2, 0),
+            Reason::Impossible => (3, 0),
+            Reason::LogFull => (4, 0),
+            Reason::QueueFull => (5, 0),
+        };
+        Refusal { number, place }
+    }
 }
 
 impl From<Garbled> for Reason {

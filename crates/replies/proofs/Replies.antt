@@ -17,15 +17,10 @@ use Rattle.puts.specs.Words.{code_slot}
 use Rattle.memory.specs.Valid.{Sound, Valid}
 use Rattle.logs.proofs.Logs.{in_at}
 use Rattle.model.specs.Lists.{In}
-use Rattle.logs.specs.State.{Laid, nth_of}
-use Rattle.logs.specs.declared.Place.{Place}
+use Rattle.logs.specs.State.{nth_of}
 use Rattle.wire.specs.Bytes.{write_answer, write_item}
-use Rattle.calls.specs.Answered.{code_answer, code_says, code_value, one_put, says_in}
-use Rattle.calls.specs.declared.Answer.{Answer as CodeAnswer}
-use Rattle.calls.specs.declared.Answer.TheVariants.{Reply}
-use Rattle.calls.proofs.Acts.{back, code_cases}
-use Rattle.calls.proofs.Said.{answer_said}
-use Rattle.calls.proofs.Told.{told_long}
+use Rattle.calls.specs.Answered.{one_put}
+use Rattle.calls.proofs.Acts.{back}
 
 -- the bytes of the first i of some
 abbrev pub items : ℕ → List (Put Body) → List ℕ
@@ -59,32 +54,3 @@ reply_sound l r c v q i = in_at (Sound l) r.delivery.log q v.fits.delivery.logs 
 pub reply_whole : (c : Clock) (d : Delivery Body) (i : ℕ) → reply_most ≤ i → take i (reply c d) ≡ reply c d
 reply_whole c d i h = take_all i (reply c d) (let k = length-take reply_most (lacking c (reverse d.log)) in omega (arith, k))
 
--- WHAT AN ANSWER MEANS: the bytes of what the code's answer says are those of the model's
-pub means : (l : Limits) (r : Replica) (e : Event) (x : Place) → Valid l r → Laid l r.delivery.me x → readable e ≡ true → in_range l e ≡ true → (a : CodeAnswer) → a ≡ code_answer l r e →
-    (b : List ℕ) → b ≡ write_answer (says_in x.replicas r.delivery a) → b ≡ write_answer (answer l r e)
-means l r e x v laid rd g a s b w = w ∙ ap write_answer ((λ i. says_in (laid.replicas i) r.delivery (s i)) ∙ answer_said l r e v rd g)
-
--- a reply is one to a clock that was told
-no_value : (k : CodeClock) (o : Option CodePut) → Reply k ≡ code_value o → ⊥
-no_value k None e = let z : ◌≡◌ {A = ℕ} 0 1 = cc in omega arith
-no_value k (Some p) e = let z : ◌≡◌ {A = ℕ} 0 1 = cc in omega arith
-
-never : {A : Type 0} → ◌≡◌ {A = ℕ} 0 1 → A
-never z = absurd (omega arith)
-
-module _ (l : Limits) (r : Replica) (k : CodeClock) (b : List ℕ) (w : (c : Clock) → length c ≡ l.replicas → k ≡ code_clock c → b ≡ write_answer (puts (reply c r.delivery))) where
-  reply_by : (e : Event) → Reply k ≡ code_says r e → refusal l r e ≡ 0 → in_range l e ≡ true → b ≡ write_answer (answer l r e)
-  unfolding says
-  reply_by (put x) t z g = never cc
-  reply_by (get j) t z g = absurd (no_value k _ t)
-  reply_by (came q) t z g = never cc
-  reply_by (has j c) t z g = let same : k ≡ code_clock c = cc in w c (told_long l j c g).1 same ∙ ap write_answer (sym (answer_accepted l r (has j c) z))
-  reply_by tell t z g = never cc
-  reply_by (garbled n) t z g = never cc
-
-  pub means_reply : (e : Event) → in_range l e ≡ true → Reply k ≡ code_answer l r e → b ≡ write_answer (answer l r e)
-  means_reply e g s =
-      elim (code_cases l r e (Reply k) s) [
-        | inl y ↦ reply_by e y.1 y.0 g
-        | inr y ↦ let t = y.1.1 in never cc
-      ]
