@@ -1,11 +1,17 @@
 -- Bytes in words of eight bytes.
-use Rattle.std.proofs.Common.{◌≡◌, ℕ, zero, suc, ◌+◌, ◌*◌, ◌/◌, ◌%◌, ◌^◌, ◌<◌, ◌≤◌, List, [], ◌∷◌, ◌++◌, length, get_or, take, sym, refl, ap, ◌∙◌, arith, rules}
+use Rattle.std.proofs.Common.{◌≡◌, ℕ, zero, suc, ◌+◌, ◌*◌, ◌/◌, ◌%◌, ◌^◌, ◌<◌, ◌≤◌, List, [], ◌∷◌, ◌++◌, length, get_or, take, drop, w64, inl, inr, sym, refl, ap, ◌∙◌, subst, arith, rules}
 use Rattle.std.specs.List.{flat_map}
 use Rattle.std.proofs.lemmas.List.FromFn.{get_or-map-range_with_len, length-map-range_with_len}
 use borrow.Rule.Slice.PartMut.{put_mid}
-use Rattle.std.proofs.lemmas.List.{ext_get_or, take_more, take_all, places}
+use Rattle.std.proofs.lemmas.List.{ext_get_or, take_more, take_all, places, get_or-take, get_or-drop, get_or_past, length-take, drop-drop}
+use Rattle.std.proofs.lemmas.Bool.{cases_lt}
+use Rattle.std.specs.Simd.{first_chunks}
 use Rattle.std.proofs.lemmas.Slice.{take-put_mid}
-use Rattle.std.proofs.lemmas.Nat.{div-mul-add, mod-mul-add}
+use Rattle.std.proofs.lemmas.Nat.{le_bytes_8}
+use Rattle.std.specs.Int.{from_le_bytes}
+use Rattle.std.specs.Array.{IsFromFnResultFrom}
+use Rattle.std.specs.Fn.{Called}
+use denote.Param.Members.{Mut}
 use Rattle.puts.specs.Values.{Bytes}
 use Rattle.puts.specs.Words.{eight_of, word, pack_at, packed, unpacked, value_words}
 use Rattle.puts.proofs.Blocks.{joined_append, joined_at, joined_length}
@@ -23,38 +29,48 @@ pub unpack_all : (ws bs : List ℕ) (k : ℕ) → k ≡ 8 → length ws ≡ 8 �
 unfolding unpacked
 unpack_all ws bs k ek lw lb e = sym (take_all (8 * k) bs (omega arith)) ∙ e ∙ ap (flat_map eight_of) (take_all k ws (omega arith))
 
--- a digit of a number in base 256
-digit : (hi w lo d n : ℕ) → n ≡ (hi * 256 + d) * w + lo → lo < w → d < 256 → n / w % 256 ≡ d
-digit hi w lo d n e l h = ap (λ x. x / w % 256) e ∙ ap (λ x. x % 256) (div-mul-add (hi * 256 + d) w lo l) ∙ mod-mul-add hi 256 d h
+-- what a pure closure makes of each index from i on
+pub made_at : {F : Type 0} (g : Mut F (ℕ × Unit {0}) ℕ) (f : ℕ → ℕ) (p : F) (ys : List ℕ) (n i : ℕ) → ((k y : ℕ) (q : F) → k < i + n → Called g p (k, tt) y q → (q ≡ p) × (y ≡ f k)) → IsFromFnResultFrom g p ys i n → (k : ℕ) → i ≤ k → k < i + n → get_or ys k 0 ≡ f k
+made_at g f p ys zero i h m k l u = absurd (omega arith)
+made_at {F} g f p ys (suc n) i h m k l u =
+    let e = h i m.1 m.0 (omega arith) m.3 in
+    let P : F → Type 0 = λ q. IsFromFnResultFrom g q ys (i + 1) n in
+    elim (cases_lt i k) [
+      | inl t ↦ made_at g f p ys n (i + 1) (λ k y q l. h k y q (omega arith)) (subst P e.0 m.4) k (omega arith) (omega arith)
+      | inr t ↦ let at_i : k ≡ i = omega arith in ap (λ j. get_or ys j 0) at_i ∙ m.2.1 0 ∙ e.1 ∙ ap f (sym at_i)
+    ]
 
-eight_is : (a b c d e f g h : ℕ) → a < 256 → b < 256 → c < 256 → d < 256 → e < 256 → f < 256 → g < 256 → h < 256 →
-    eight_of (a + b * 256 + c * 65536 + d * 16777216 + e * 4294967296 + f * 1099511627776 + g * 281474976710656 + h * 72057594037927936) ≡ a ∷ b ∷ c ∷ d ∷ e ∷ f ∷ g ∷ h ∷ []
-eight_is a b c d e f g h la lb lc ld le lf lg lh =
-    let n : ℕ = a + b * 256 + c * 65536 + d * 16777216 + e * 4294967296 + f * 1099511627776 + g * 281474976710656 + h * 72057594037927936 in
-    let r0 : ℕ = b + c * 256 + d * 65536 + e * 16777216 + f * 4294967296 + g * 1099511627776 + h * 281474976710656 in
-    let e0 : n ≡ r0 * 256 + a = omega arith in
-    let d0 : n % 256 ≡ a = ap (λ x. x % 256) e0 ∙ mod-mul-add r0 256 a la in
-    let d1 = digit (c + d * 256 + e * 65536 + f * 16777216 + g * 4294967296 + h * 1099511627776) 256 a b n (omega arith) (omega arith) lb in
-    let d2 = digit (d + e * 256 + f * 65536 + g * 16777216 + h * 4294967296) 65536 (a + b * 256) c n (omega arith) (omega arith) lc in
-    let d3 = digit (e + f * 256 + g * 65536 + h * 16777216) 16777216 (a + b * 256 + c * 65536) d n (omega arith) (omega arith) ld in
-    let d4 = digit (f + g * 256 + h * 65536) 4294967296 (a + b * 256 + c * 65536 + d * 16777216) e n (omega arith) (omega arith) le in
-    let d5 = digit (g + h * 256) 1099511627776 (a + b * 256 + c * 65536 + d * 16777216 + e * 4294967296) f n (omega arith) (omega arith) lf in
-    let d6 = digit h 281474976710656 (a + b * 256 + c * 65536 + d * 16777216 + e * 4294967296 + f * 1099511627776) g n (omega arith) (omega arith) lg in
-    let d7 = digit 0 72057594037927936 (a + b * 256 + c * 65536 + d * 16777216 + e * 4294967296 + f * 1099511627776 + g * 281474976710656) h n (omega arith) (omega arith) lh in
-    cc
+eight_at : (bs : List ℕ) (i j k : ℕ) → j < 8 → i + j ≡ k → get_or (take 8 (drop i bs)) j 0 ≡ get_or bs k 0
+eight_at bs i j k h e = get_or-take 8 (drop i bs) j 0 h ∙ get_or-drop i bs j 0 ∙ ap (λ x. get_or bs x 0) e
 
-nth_of_eight : (bs : List ℕ) (i j : ℕ) → j < 8 →
-    get_or (get_or bs i 0 ∷ get_or bs (i + 1) 0 ∷ get_or bs (i + 2) 0 ∷ get_or bs (i + 3) 0 ∷ get_or bs (i + 4) 0 ∷ get_or bs (i + 5) 0 ∷ get_or bs (i + 6) 0 ∷ get_or bs (i + 7) 0 ∷ []) j 0
-    ≡ get_or bs (i + j) 0
-nth_of_eight bs i zero h = ap (λ k. get_or bs k 0) (omega arith)
-nth_of_eight bs i (suc zero) h = refl
-nth_of_eight bs i (suc (suc zero)) h = refl
-nth_of_eight bs i (suc (suc (suc zero))) h = refl
-nth_of_eight bs i (suc (suc (suc (suc zero)))) h = refl
-nth_of_eight bs i (suc (suc (suc (suc (suc zero))))) h = refl
-nth_of_eight bs i (suc (suc (suc (suc (suc (suc zero)))))) h = refl
-nth_of_eight bs i (suc (suc (suc (suc (suc (suc (suc zero))))))) h = refl
-nth_of_eight bs i (suc (suc (suc (suc (suc (suc (suc (suc j)))))))) h = absurd (omega arith)
+pub word_is : (bs : List ℕ) (i : ℕ) → word bs i ≡ from_le_bytes w64 (take 8 (drop i bs))
+word_is bs i =
+    let a = eight_at bs i 0 i (omega arith) (omega arith) in
+    let b = eight_at bs i 1 (i + 1) (omega arith) refl in
+    let c = eight_at bs i 2 (i + 2) (omega arith) refl in
+    let d = eight_at bs i 3 (i + 3) (omega arith) refl in
+    let e = eight_at bs i 4 (i + 4) (omega arith) refl in
+    let f = eight_at bs i 5 (i + 5) (omega arith) refl in
+    let g = eight_at bs i 6 (i + 6) (omega arith) refl in
+    let h = eight_at bs i 7 (i + 7) (omega arith) refl in
+    omega arith
+
+part_below : (bs : List ℕ) (n i : ℕ) → Bytes bs → Bytes (take n (drop i bs))
+part_below bs n i fits j =
+    elim (cases_lt j n) [
+      | inl t ↦ rw (get_or-take n (drop i bs) j 0 t, get_or-drop i bs j 0) (fits (i + j))
+      | inr t ↦ rw (get_or_past (take n (drop i bs)) j 0 (omega (arith, length-take n (drop i bs)))) (omega arith)
+    ]
+
+eight_back : (bs : List ℕ) (i : ℕ) → i + 8 ≤ length bs → Bytes bs → eight_of (word bs i) ≡ take 8 (drop i bs)
+eight_back bs i l fits = le_bytes_8 (take 8 (drop i bs)) (word bs i) (search (rules, places)) (part_below bs 8 i fits) (word_is bs i)
+
+pub chunk_is : (bs : List ℕ) (n k : ℕ) → k < n → get_or (first_chunks 8 n bs) k [] ≡ take 8 (drop (8 * k) bs)
+chunk_is bs zero k h = absurd (omega arith)
+chunk_is bs (suc n) zero h = refl
+chunk_is bs (suc n) (suc k) h =
+    let e : 8 + 8 * k ≡ 8 * suc k = omega arith in
+    chunk_is (drop 8 bs) n k (omega arith) ∙ ap (take 8) (drop-drop (8 * k) 8 bs ∙ ap (λ x. drop x bs) e)
 
 pub packed_length : (bs : List ℕ) → length (packed bs) ≡ value_words
 unfolding packed
@@ -78,9 +94,8 @@ unpacked_packed bs l fits =
     let lk : k < 8 = omega arith in
     let lj : j < 8 = omega arith in
     let at_i : 8 * k + j ≡ i = omega arith in
-    let e = eight_is _ _ _ _ _ _ _ _ (fits (8 * k)) (fits (8 * k + 1)) (fits (8 * k + 2)) (fits (8 * k + 3)) (fits (8 * k + 4)) (fits (8 * k + 5)) (fits (8 * k + 6)) (fits (8 * k + 7)) in
     ap (λ x. get_or (flat_map eight_of ws) x 0) (sym at_i) ∙ joined_at eight_of 8 (λ _. refl) ws k j 0 0 (omega arith) lj
-    ∙ ap (λ x. get_or (eight_of x) j 0) (packed_at bs k lk) ∙ ap (λ x. get_or x j 0) e ∙ nth_of_eight bs (8 * k) j lj ∙ ap (λ x. get_or bs x 0) at_i)
+    ∙ ap (λ x. get_or (eight_of x) j 0) (packed_at bs k lk) ∙ ap (λ x. get_or x j 0) (eight_back bs (8 * k) (omega arith) fits) ∙ eight_at bs (8 * k) j i lj at_i)
 
 word_below : (a b c d e f g h : ℕ) → a < 256 → b < 256 → c < 256 → d < 256 → e < 256 → f < 256 → g < 256 → h < 256 →
     a + b * 256 + c * 65536 + d * 16777216 + e * 4294967296 + f * 1099511627776 + g * 281474976710656 + h * 72057594037927936 < 2 ^ 64

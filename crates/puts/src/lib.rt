@@ -44,18 +44,17 @@ impl Clock {
     pub fn count(&self, i: u64) -> u64
         ensures { result ≡ count_at self.now.counts i }
     {
-        if i < COUNTS as u64 {
-            return self.counts[i as usize];
-        }
-        0
+        self.counts.get(i as usize).copied().unwrap_or(0)
     }
 
     // One more put of replica `i`.
     pub fn bump(&mut self, i: u64)
         ensures { count_at self.old.counts i < count_bound → self.new.counts ≡ tick self.old.counts i }
     {
-        if i < COUNTS as u64 {
-            self.counts[i as usize] = self.counts[i as usize].wrapping_add(1);
+        // By index: what is written through `get_mut` of an array or a slice, no contract tells.
+        let i = i as usize;
+        if i < COUNTS {
+            self.counts[i] = self.counts[i].wrapping_add(1);
         }
     }
 
@@ -63,20 +62,19 @@ impl Clock {
     pub fn below(&self, other: &Clock) -> bool
         ensures { result ≡ is_below self.now.counts other.now.counts }
     {
-        for i in 0..COUNTS {
-            if self.counts[i] > other.counts[i] {
-                return false;
-            }
-        }
-        true
+        self.counts
+            .iter()
+            .zip(&other.counts)
+            .all(|(mine, theirs)| mine <= theirs)
     }
 
     // The larger of each count.
     pub fn join(&mut self, other: &Clock)
         ensures { self.new.counts ≡ joined_with self.old.counts other.now.counts }
     {
-        for i in 0..COUNTS {
-            self.counts[i] = self.counts[i].max(other.counts[i]);
+        // Of a `zip` with `iter_mut` no contract tells the elements.
+        for (i, mine) in self.counts.iter_mut().enumerate() {
+            *mine = (*mine).max(other.counts[i]);
         }
     }
 
@@ -84,11 +82,7 @@ impl Clock {
     pub fn sum(&self) -> u64
         ensures { Small self.now.counts → result ≡ sum_of self.now.counts }
     {
-        let mut n: u64 = 0;
-        for i in 0..COUNTS {
-            n = n.wrapping_add(self.counts[i]);
-        }
-        n
+        self.counts.iter().fold(0, |n: u64, c| n.wrapping_add(*c))
     }
 }
 
@@ -108,14 +102,10 @@ impl Text {
     }
 
     pub fn as_bytes(&self) -> &[u8]
-        ensures { result.now ≡ value_in self.now }
+        ensures value { result.now ≡ value_in self.now }
+        ensures most { length result.now ≤ value_most }
     {
-        let n = if self.len < VALUE_MOST {
-            self.len
-        } else {
-            VALUE_MOST
-        };
-        &self.bytes[..n]
+        self.bytes.get(..self.len).unwrap_or(&self.bytes)
     }
 
     // The same bytes.
@@ -138,9 +128,7 @@ impl event::Put<Clock, Text> {
     pub fn later(&self, other: &Put) -> bool
         ensures { Small self.now.seen.counts → Small other.now.seen.counts → result ≡ is_later (put_of self.now) (put_of other.now) }
     {
-        let mine = self.seen.sum();
-        let theirs = other.seen.sum();
-        theirs < mine || theirs == mine && other.from < self.from
+        (self.seen.sum(), self.from) > (other.seen.sum(), other.from)
     }
 
     // The clock has this put.

@@ -4,6 +4,7 @@ ghost use Rattle.model.specs.Limits.{value_most};
 ghost use Rattle.puts.specs.Words.{slot_size, value_words, word, packed, unpacked, put_words, put_in, head_in, if_put};
 
 use crate::{COUNTS, Clock, Put, Text, VALUE_MOST};
+use std::array;
 
 // The layout of a slot: how many words, and where each part begins.
 pub const SLOT: usize = 32;
@@ -36,31 +37,11 @@ pub struct Head {
     pub number: u64,
 }
 
-// The eight bytes from `i` on, as one word.
-fn word_at(bytes: &[u8; VALUE_MOST], i: usize) -> u64
-    requires { i + 8 ≤ value_most }
-    ensures { result ≡ word bytes.now i }
-{
-    u64::from_le_bytes([
-        bytes[i],
-        bytes[i + 1],
-        bytes[i + 2],
-        bytes[i + 3],
-        bytes[i + 4],
-        bytes[i + 5],
-        bytes[i + 6],
-        bytes[i + 7],
-    ])
-}
-
 fn pack(bytes: &[u8; VALUE_MOST]) -> [u64; VALUE_WORDS]
     ensures { result ≡ packed bytes.now }
 {
-    let mut words = [0; VALUE_WORDS];
-    for k in 0..VALUE_WORDS {
-        words[k] = word_at(bytes, 8 * k);
-    }
-    words
+    let (chunks, _) = bytes.as_chunks::<8>();
+    array::from_fn(|k| u64::from_le_bytes(chunks[k]))
 }
 
 fn unpack(words: &[u64]) -> [u8; VALUE_MOST]
@@ -68,8 +49,8 @@ fn unpack(words: &[u64]) -> [u8; VALUE_MOST]
     ensures { result ≡ unpacked words.now }
 {
     let mut bytes = [0; VALUE_MOST];
-    for k in 0..VALUE_WORDS {
-        bytes[8 * k..8 * k + 8].copy_from_slice(&words[k].to_le_bytes());
+    for (k, word) in words.iter().enumerate() {
+        bytes[8 * k..8 * k + 8].copy_from_slice(&word.to_le_bytes());
     }
     bytes
 }
@@ -118,11 +99,7 @@ pub fn read_head(part: &[u64]) -> Option<Head>
         return None;
     }
     let from = part[FROM];
-    let before = if from < COUNTS as u64 {
-        part[SEEN + from as usize]
-    } else {
-        0
-    };
+    let before = part[SEEN..SPARE].get(from as usize).copied().unwrap_or(0);
     Some(Head {
         from,
         number: before.wrapping_add(1),

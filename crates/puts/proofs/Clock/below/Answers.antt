@@ -1,12 +1,12 @@
-use Rattle.std.proofs.Common.{arith}
-use Rattle.puts.proofs.Clocks.{below_stops, below_goes, below_ends}
+use Rattle.std.proofs.Common.{ℕ, ◌<◌, ◌≤◌, rules, arith}
+use Rattle.std.proofs.lemmas.Iterator.{cases_from_all, YieldsList-from_slice, YieldsList-from_zip}
+use Rattle.puts.proofs.Clocks.{below_cases}
 use Rattle.puts.proofs.Clock.below.Goals as goal
-
-pub returns-then-self-i : goal.returns-then-self-i
-returns-then-self-i c = below_stops _ _ c.loop-i.i (omega arith) (omega arith) c.if-self-i.true c.loop-i.invariant
-
-pub loop-i-preserved : goal.loop-i-preserved
-loop-i-preserved c = below_goes _ _ c.loop-i.i (omega arith) (omega arith) c.if-self-i.false c.loop-i.invariant
+use borrow.Author.Tests.{tests}
 
 pub returns : goal.returns
-returns c = below_ends _ _ c.loop-i.i (omega arith) c.loop-i.invariant
+returns c =
+    let xs = c.args.self.now.counts in
+    let ys = c.args.other.now.counts in
+    below_cases xs ys _ (omega arith)
+    (cases_from_all c.all.new.self _ _ (λ (p : ℕ × ℕ). p.0 ≤ p.1) (λ (p : ℕ × ℕ). p.1 < p.0) c.all.ensures.ran (YieldsList-from_zip (YieldsList-from_slice xs (cc)) (YieldsList-from_slice ys (cc))) (λ x q k. search (rules, tests)) (λ x q k. search (rules, tests)))
