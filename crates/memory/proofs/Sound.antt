@@ -10,7 +10,8 @@ use Rattle.model.specs.Delivery.{Delivery}
 use Rattle.model.specs.Replica.{Replica, came, in_range}
 use Rattle.puts.specs.Values.{Small, Bytes, pad}
 use Rattle.puts.specs.Words.{slot_size, Slot, slot_words, FitSlot}
-use Rattle.puts.proofs.Blocks.{joined_append, joined_zeros}
+use Rattle.puts.proofs.Blocks.{joined_zeros}
+use Rattle.std.proofs.lemmas.List.Concat.{flat_map-append}
 use Rattle.puts.proofs.Padded.{get_or_pad}
 use Rattle.puts.proofs.Slots.{words_below}
 use Rattle.slots.specs.Image.{row_size, header}
@@ -112,7 +113,7 @@ rows_fit l r v =
     let rest : AllByRecursion Word (flat_map (pad row_size) (replicate n [])) = subst P (sym (joined_zeros (pad row_size) row_size [] no_row n)) (zeros_fit (row_size * n)) in
     All-append Word (pad row_size (sizes l d)) _ (sizes_fit l r v)
     (All-append Word (pad row_size d.clock) _ (row_fits d.clock (omega (arith, f.clock, f.replicas)) f.small)
-    (subst P (sym (joined_append (pad row_size) d.known (replicate n []))) (All-append Word (flat_map (pad row_size) d.known) _ known rest)))
+    (subst P (sym (flat_map-append (pad row_size) d.known (replicate n []))) (All-append Word (flat_map (pad row_size) d.known) _ known rest)))
 
 pub words_fit : (l : Limits) (r : Replica) → Valid l r → AllByRecursion Word (encode l r)
 unfolding encode

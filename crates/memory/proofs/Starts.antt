@@ -1,5 +1,5 @@
 -- A new replica in memory.
-use Rattle.std.proofs.Common.{◌≡◌, ℕ, zero, suc, ◌+◌, ◌-◌, ◌*◌, ◌<◌, ◌≤◌, Bool, List, [], ◌∷◌, ◌++◌, length, get_or, take, drop, replicate, sym, refl, ap, ◌∙◌, subst, arith}
+use Rattle.std.proofs.Common.{◌≡◌, ℕ, ◌+◌, ◌-◌, ◌*◌, ◌<◌, ◌≤◌, Bool, List, [], ◌∷◌, ◌++◌, length, get_or, take, drop, replicate, sym, refl, ap, ◌∙◌, subst, arith}
 use Rattle.std.specs.List.{flat_map}
 use Rattle.std.proofs.lemmas.List.{length-replicate, replicate-append-replicate, get_or-replicate, length-append, take_at, drop_at}
 use Rattle.model.specs.Limits.{Limits, GoodLimits}
@@ -7,8 +7,9 @@ use Rattle.model.specs.Delivery.{new_delivery}
 use Rattle.model.specs.Replica.{Replica, new_replica}
 use Rattle.puts.specs.Values.{pad}
 use Rattle.puts.specs.Words.{slot_size, Slot, slot_words}
-use Rattle.puts.proofs.Blocks.{joined_append, joined_zeros}
-use Rattle.puts.proofs.Padded.{pad_zeros}
+use Rattle.puts.proofs.Blocks.{joined_zeros}
+use Rattle.std.proofs.lemmas.List.Concat.{flat_map-append}
+use Rattle.puts.proofs.Padded.{pad_zeros, get_or_zeros}
 use Rattle.puts.proofs.Slots.{none_is}
 use Rattle.slots.specs.Image.{row_size, row_count, header_size, header, memory, with_row, row_at}
 use Rattle.slots.proofs.Rows.{row_laws, row_longer}
@@ -41,7 +42,7 @@ module _ (l : Limits) (i : ℕ) where
       let k : 16 * n + 16 * (30 - n) ≡ 480 = omega arith in
       let lk : length (replicate n zs) ≡ n = length-replicate n zs in
       let a : flat_map (pad 16) (replicate n zs ++ replicate (30 - n) none) ≡ replicate 480 z =
-      joined_append (pad 16) (replicate n zs) (replicate (30 - n) none) ∙ ap (λ t. t ++ flat_map (pad 16) (replicate (30 - n) none)) (joined_zeros (pad 16) 16 zs (pad_zeros 16 n h) n)
+      flat_map-append (pad 16) (replicate n zs) (replicate (30 - n) none) ∙ ap (λ t. t ++ flat_map (pad 16) (replicate (30 - n) none)) (joined_zeros (pad 16) 16 zs (pad_zeros 16 n h) n)
       ∙ ap (λ t. replicate (16 * n) z ++ t) (joined_zeros (pad 16) 16 none no_row (30 - n)) ∙ replicate-append-replicate (16 * n) (16 * (30 - n)) z ∙ ap (λ t. replicate t z) k in
       let b : flat_map (pad 16) (replicate 31 none) ≡ pad 16 zs ++ flat_map (pad 16) (replicate n zs ++ replicate (30 - n) none) =
       joined_zeros (pad 16) 16 none no_row 31 ∙ sym (replicate-append-replicate 16 480 z) ∙ ap (λ t. t ++ replicate 480 z) (sym (pad_zeros 16 n h)) ∙ ap (λ t. pad 16 zs ++ t) (sym a) in
@@ -65,11 +66,6 @@ module _ (l : Limits) (i : ℕ) where
       ∙ row_laws.writes (replicate row_count []) (replicate n []) 0 (first_row 0 0 i (code_limits l)) refl (omega arith)
       ∙ ap (λ t. t ++ flat_map slot_words (replicate n [])) (new_rows h) ∙ ap (memory (rows l (new_delivery l i))) new_slots
 
-zero_at : (n i : ℕ) → ◌≡◌ {A = ℕ} (get_or (replicate n 0) i 0) 0
-zero_at zero i = refl
-zero_at (suc n) zero = refl
-zero_at (suc n) (suc i) = zero_at n i
-
 pub new_valid : (l : Limits) (i : ℕ) → InRange (code_limits l) → i < l.replicas → Valid l (new_replica l i)
 unfolding SoundSlot Down
 new_valid l i g h =
@@ -85,10 +81,10 @@ new_valid l i g h =
           replicas = g.replicas.1;
           me = h;
           clock = length-replicate n z;
-          small = λ k. omega (arith, zero_at n k);
+          small = λ k. omega (arith, get_or_zeros n [] k);
           known = length-replicate n zs;
           each = λ k lt. ap length (known k lt) ∙ length-replicate n z;
-          each_small = λ k lt j. omega (arith, ap (λ c. get_or c j 0) (known k lt), zero_at n j);
+          each_small = λ k lt j. omega (arith, ap (λ c. get_or c j 0) (known k lt), get_or_zeros n [] j);
           room = omega arith;
           waits = λ k d lt. absurd (omega arith);
           logs = λ k d lt. absurd (omega arith);

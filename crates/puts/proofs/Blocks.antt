@@ -1,15 +1,10 @@
 -- Lists made of parts of one length: reading a part, writing one, and one element of a part.
-use Rattle.std.proofs.Common.{◌≡◌, ℕ, zero, suc, ◌+◌, ◌-◌, ◌*◌, ◌<◌, ◌≤◌, List, [], ◌∷◌, ◌++◌, length, get_or, take, drop, set, replicate, sym, refl, ap, ◌∙◌, mul-suc, arith}
+use Rattle.std.proofs.Common.{◌≡◌, ℕ, zero, suc, ◌+◌, ◌-◌, ◌*◌, ◌<◌, ◌≤◌, List, [], ◌∷◌, ◌++◌, length, get_or, take, drop, set, replicate, sym, ap, ◌∙◌, mul-suc, arith}
 use borrow.Rule.Slice.PartMut.{put_mid}
 use Rattle.std.specs.List.{flat_map}
-use Rattle.std.proofs.lemmas.List.{drop-drop, drop_at, take_at, append_assoc, length-append, take-append-le, drop-append-le, length-drop, get_or_append_left, get_or-append_right, set-append_left, set-append_right, replicate-append-replicate}
-
-pub take_after : {A : Type 0} (p xs : List A) (n a : ℕ) → length p ≡ n → take (n + a) (p ++ xs) ≡ p ++ take a xs
-take_after [] xs n a e = ap (λ m. take m xs) (omega arith)
-take_after (x ∷ p) xs n a e =
-    let m : ℕ = length p + a in
-    let q : n + a ≡ suc m = omega arith in
-    ap (λ k. take k (x ∷ (p ++ xs))) q ∙ ap (λ ys. x ∷ ys) (take_after p xs (length p) a refl)
+use Rattle.std.proofs.Math.Seq.{take-append-add}
+use Rattle.std.proofs.lemmas.List.Concat.{get_or-flat_map}
+use Rattle.std.proofs.lemmas.List.{length-take-le, drop-drop, drop_at, take_at, append_assoc, length-append, take-append-le, drop-append-le, length-drop, set-append_left, set-append_right, replicate-append-replicate}
 
 pub drop_after : {A : Type 0} (p xs : List A) (n a : ℕ) → length p ≡ n → drop (n + a) (p ++ xs) ≡ drop a xs
 drop_after p xs n a e = sym (drop-drop a n (p ++ xs)) ∙ ap (drop a) (drop_at p xs n e)
@@ -17,7 +12,7 @@ drop_after p xs n a e = sym (drop-drop a n (p ++ xs)) ∙ ap (drop a) (drop_at p
 -- a part behind another
 pub mid_after : {A : Type 0} (p xs ys : List A) (n a k : ℕ) → length p ≡ n → put_mid (n + a) k (p ++ xs) ys ≡ p ++ put_mid a k xs ys
 mid_after p xs ys n a k e =
-    ap (λ t. t ++ (ys ++ drop k (drop (n + a) (p ++ xs)))) (take_after p xs n a e)
+    ap (λ t. t ++ (ys ++ drop k (drop (n + a) (p ++ xs)))) (ap (λ m. take (m + a) (p ++ xs)) (sym e) ∙ take-append-add p xs a)
     ∙ ap (λ t. (p ++ take a xs) ++ (ys ++ drop k t)) (drop_after p xs n a e)
     ∙ append_assoc p (take a xs) (ys ++ drop k (drop a xs))
 
@@ -31,10 +26,6 @@ write_left xs ys w a n h =
     let d : drop n (drop a (xs ++ ys)) ≡ drop n (drop a xs) ++ ys = drop-drop n a (xs ++ ys) ∙ drop-append-le (a + n) xs ys (omega arith) ∙ ap (λ z. z ++ ys) (sym (drop-drop n a xs)) in
     ap (λ z. z ++ (w ++ drop n (drop a (xs ++ ys)))) t ∙ ap (λ z. take a xs ++ (w ++ z)) d
     ∙ ap (λ z. take a xs ++ z) (sym (append_assoc w (drop n (drop a xs)) ys)) ∙ sym (append_assoc (take a xs) (w ++ drop n (drop a xs)) ys)
-
-pub joined_append : {X A : Type 0} (f : X → List A) (xs ys : List X) → flat_map f (xs ++ ys) ≡ flat_map f xs ++ flat_map f ys
-joined_append f [] ys = refl
-joined_append f (x ∷ xs) ys = ap (λ t. f x ++ t) (joined_append f xs ys) ∙ sym (append_assoc (f x) (flat_map f xs) (flat_map f ys))
 
 pub joined_zeros : {X : Type 0} (f : X → List ℕ) (w : ℕ) (y : X) → f y ≡ replicate w 0 → (n : ℕ) → flat_map f (replicate n y) ≡ replicate (w * n) 0
 joined_zeros f w y e zero = let z : w * 0 ≡ 0 = omega arith in sym (ap (λ k. replicate k 0) z)
@@ -67,13 +58,9 @@ module _ {X A : Type 0} (f : X → List A) (w : ℕ) (h : (x : X) → length (f 
       ap (λ m. put_mid m w (f x ++ flat_map f xs) (f y)) z ∙ mid_after (f x) (flat_map f xs) (f y) w (w * k) w (h x) ∙ ap (λ t. f x ++ t) (joined_write xs k y (omega arith))
 
   pub joined_at : (xs : List X) (k i : ℕ) (d : X) (z : A) → k < length xs → i < w → get_or (flat_map f xs) (w * k + i) z ≡ get_or (f (get_or xs k d)) i z
-  joined_at [] k i d z l b = absurd (omega arith)
-  joined_at (x ∷ xs) zero i d z l b =
-      let e : w * 0 + i ≡ i = omega arith in
-      ap (λ t. get_or (f x ++ flat_map f xs) t z) e ∙ get_or_append_left (f x) (flat_map f xs) z i (omega (arith, h x))
-  joined_at (x ∷ xs) (suc k) i d z l b =
-      let e : (w * suc k + i) - w ≡ w * k + i = omega (arith, mul-suc w k) in
-      get_or-append_right (f x) (flat_map f xs) w (w * suc k + i) z (h x) (omega (arith, mul-suc w k)) ∙ ap (λ t. get_or (flat_map f xs) t z) e ∙ joined_at xs k i d z (omega arith) b
+  joined_at xs k i d z l b =
+      let n : length (flat_map f (take k xs)) ≡ w * k = joined_length (take k xs) ∙ ap (λ m. w * m) (length-take-le k xs (omega arith)) in
+      ap (λ m. get_or (flat_map f xs) (m + i) z) (sym n) ∙ get_or-flat_map f xs k i d z l (omega (arith, h (get_or xs k d)))
 
   pub joined_set : (xs : List X) (k i : ℕ) (d y : X) (v : A) → k < length xs → i < w → set (f (get_or xs k d)) i v ≡ f y → set (flat_map f xs) (w * k + i) v ≡ flat_map f (set xs k y)
   joined_set [] k i d y v l b e = absurd (omega arith)

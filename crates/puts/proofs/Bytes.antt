@@ -3,6 +3,7 @@ use Rattle.std.proofs.Common.{◌≡◌, ℕ, zero, suc, ◌+◌, ◌*◌, ◌/�
 use Rattle.std.specs.List.{flat_map}
 use Rattle.std.proofs.lemmas.List.FromFn.{get_or-map-range_with_len, length-map-range_with_len}
 use borrow.Rule.Slice.PartMut.{put_mid}
+use Rattle.std.proofs.lemmas.List.Concat.{flat_map-append}
 use Rattle.std.proofs.lemmas.List.{ext_get_or, take_more, take_all, places, get_or-take, get_or-drop, get_or_past, length-take, drop-drop}
 use Rattle.std.proofs.lemmas.Bool.{cases_lt}
 use Rattle.std.specs.Simd.{first_chunks}
@@ -14,7 +15,7 @@ use Rattle.std.specs.Fn.{Called}
 use denote.Param.Members.{Mut}
 use Rattle.puts.specs.Values.{Bytes}
 use Rattle.puts.specs.Words.{eight_of, word, pack_at, packed, unpacked, value_words}
-use Rattle.puts.proofs.Blocks.{joined_append, joined_at, joined_length}
+use Rattle.puts.proofs.Blocks.{joined_at, joined_length}
 
 -- one turn of the loop that takes words apart
 pub unpack_more : (ws bs e : List ℕ) (k n : ℕ) → k < length ws → length bs ≡ 64 → 8 * k + 8 ≤ 64 → n ≡ 8 → e ≡ eight_of (get_or ws k 0) → take (8 * k) bs ≡ flat_map eight_of (take k ws) →
@@ -22,7 +23,7 @@ pub unpack_more : (ws bs e : List ℕ) (k n : ℕ) → k < length ws → length 
 unpack_more ws bs e k n l lb h en ee t =
     let le : length e ≡ 8 = ap length ee in
     let x : take (8 * (k + 1)) (put_mid (8 * k) n bs e) ≡ take (8 * k) bs ++ e = take-put_mid (8 * k) n bs e (8 * (k + 1)) (omega arith) (omega arith) in
-    let y : flat_map eight_of (take (k + 1) ws) ≡ flat_map eight_of (take k ws) ++ (eight_of (get_or ws k 0) ++ []) = ap (flat_map eight_of) (take_more ws k 0 l) ∙ joined_append eight_of (take k ws) (get_or ws k 0 ∷ []) in
+    let y : flat_map eight_of (take (k + 1) ws) ≡ flat_map eight_of (take k ws) ++ (eight_of (get_or ws k 0) ++ []) = ap (flat_map eight_of) (take_more ws k 0 l) ∙ flat_map-append eight_of (take k ws) (get_or ws k 0 ∷ []) in
     (search (rules, places), x ∙ ap (λ z. z ++ e) t ∙ ap (λ z. flat_map eight_of (take k ws) ++ z) ee ∙ sym y)
 
 pub unpack_all : (ws bs : List ℕ) (k : ℕ) → k ≡ 8 → length ws ≡ 8 → length bs ≡ 64 → take (8 * k) bs ≡ flat_map eight_of (take k ws) → bs ≡ unpacked ws

@@ -7,7 +7,7 @@ use Rattle.model.specs.Clock.{Clock, at, below, join, sum, tick}
 use Rattle.model.specs.Put.{Put, Body, text, key_of, value_of, number, later, had}
 use Rattle.model.specs.Delivery.{Delivery, ready}
 use Rattle.puts.specs.Values.{clock_size, pad, Small, put_of, narrow, code_put, Fit}
-use Rattle.puts.proofs.Blocks.{take_after}
+use Rattle.std.proofs.Math.Seq.{take-append-add}
 
 pub pad_length : (n : ℕ) (xs : List ℕ) → length (pad n xs) ≡ n
 unfolding pad
@@ -23,9 +23,9 @@ pad_is n xs h =
     let e : n ≡ length xs + (n - length xs) = omega arith in
     let z : ℕ = 0 in
     let le : n - length xs ≤ n = omega arith in
-    ap (λ m. take m (xs ++ replicate n z)) e ∙ take_after xs (replicate n z) (length xs) (n - length xs) refl ∙ ap (λ t. xs ++ t) (take-replicate (n - length xs) n z le)
+    ap (λ m. take m (xs ++ replicate n z)) e ∙ take-append-add xs (replicate n z) (n - length xs) ∙ ap (λ t. xs ++ t) (take-replicate (n - length xs) n z le)
 
-get_or_zeros : (n : ℕ) (xs : List ℕ) (i : ℕ) → get_or (xs ++ replicate n 0) i 0 ≡ get_or xs i 0
+pub get_or_zeros : (n : ℕ) (xs : List ℕ) (i : ℕ) → get_or (xs ++ replicate n 0) i 0 ≡ get_or xs i 0
 get_or_zeros zero [] i = refl
 get_or_zeros (suc n) [] zero = refl
 get_or_zeros (suc n) [] (suc i) = get_or_zeros n [] i

@@ -1,7 +1,11 @@
 // Clocks, values and puts, by value. A clock has sixteen counts, of which a replica uses as many as there are replicas; the others are 0.
 #![tactic(auto)]
 
-ghost use Rattle.std.specs.Prelude.{◌≡◌, ◌^◌, ◌<◌, ◌≤◌, true, length, replicate, Decides, MatchOption};
+ghost use Rattle.std.specs.Prelude.{◌≡◌, ◌^◌, ◌<◌, ◌≤◌, true, length, replicate, nat_eq, Decides, MatchOption};
+ghost use Rattle.std.specs.Cmp.Lexicographic.{pointwise};
+ghost use Rattle.std.specs.Cmp.Rules.{comparing};
+ghost use Rattle.std.specs.Ordering.{on};
+ghost use Rattle.std.proofs.Common.{rules};
 ghost use Rattle.model.specs.Limits.{count_bound, value_most};
 ghost use Rattle.model.specs.Clock.{at as count_at, sum as sum_of, below as is_below, join as joined_with, tick};
 ghost use Rattle.model.specs.Put.{number as number_of, later as is_later, had as has_put, Body};
@@ -21,7 +25,7 @@ pub struct Clock {
     pub counts: [u64; COUNTS],
 }
 
-// A value: the first `len` of its bytes; the others are 0.
+// A value: the first `len` of its bytes; the others are 0. No type hides the two: a `Text` is what the words of a slot say, in any memory, and contracts speak of it whole.
 #[derive(Clone, Copy)]
 pub struct Text {
     pub len: usize,
@@ -107,13 +111,22 @@ impl Text {
     {
         self.bytes.get(..self.len).unwrap_or(&self.bytes)
     }
+}
 
-    // The same bytes.
-    pub fn same(&self, other: &Text) -> bool
+impl PartialEq for Text {
+    ghost eq = { on value_in (pointwise nat_eq) };
+
+    ghost laws = { Prim.search (comparing, rules) };
+
+    fn eq(&self, other: &Text) -> bool
         ensures { Decides result (value_in self.now ≡ value_in other.now) }
     {
         self.as_bytes() == other.as_bytes()
     }
+}
+
+impl Eq for Text {
+    ghost laws = { Prim.search (comparing, rules) };
 }
 
 impl event::Put<Clock, Text> {

@@ -27,7 +27,7 @@ const VALUE_WORDS: usize = 8;
 
 const END: usize = VALUE + VALUE_WORDS;
 
-// The form of a slot with a put; that of an empty one is 0.
+// The form of a slot with a put; that of an empty one is 0. A number, since it is a word of the memory's layout.
 const PUT: u64 = 1;
 
 // Of a put: whose it is, and its number.
