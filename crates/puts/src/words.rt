@@ -69,8 +69,7 @@ pub fn write_put(part: &mut [u64], p: &Put)
 }
 
 // The put that the part holds, if it holds one.
-pub fn read_put(part: &[u64]) -> Option<Put>
-    requires { length part.now ≡ slot_size }
+pub fn read_put(part: &[u64; SLOT]) -> Option<Put>
     ensures { result ≡ if_put part.now (put_in part.now) }
 {
     if part[FORM] != PUT {
@@ -91,8 +90,7 @@ pub fn read_put(part: &[u64]) -> Option<Put>
 }
 
 // Its head alone.
-pub fn read_head(part: &[u64]) -> Option<Head>
-    requires { length part.now ≡ slot_size }
+pub fn read_head(part: &[u64; SLOT]) -> Option<Head>
     ensures { result ≡ if_put part.now (head_in part.now) }
 {
     if part[FORM] != PUT {

@@ -2,7 +2,7 @@
 use Rattle.std.proofs.Common.{◌≡◌, ℕ, ◌+◌, ◌*◌, ◌<◌, ◌≤◌, true, false, ltb, leb, List, [], ◌++◌, length, get_or, take, drop, set, replicate, sym, refl, ap, ◌∙◌, inl, inr, arith}
 use borrow.Rule.Slice.PartMut.{put_mid}
 use Rattle.std.specs.List.{flat_map}
-use Rattle.std.proofs.lemmas.List.{length-append, get_or_append_left, set-append_left}
+use Rattle.std.proofs.lemmas.List.{length-append, length-take, get_or-take, get_or-drop, get_or_past, get_or_append_left, set-append_left}
 use Rattle.std.proofs.lemmas.Bool.{cases_lt, cond-true, cond-false, le-leb, lt-leb, lt-ltb, le-ltb, and_from, and_left, and_right}
 use Rattle.puts.specs.Values.{pad}
 use Rattle.puts.specs.Words.{Slot, slot_words}
@@ -24,13 +24,9 @@ module _ (m : List ℕ) (r : ℕ) where
         | inr h ↦ and_left (ltb r row_count) (leb header_size (length m)) (le-ltb r row_count h)
       ]
 
-  pub reads_row : (x : List ℕ) (n : ℕ) → r < row_count → header_size ≤ length m → n ≡ row_size → x ≡ take n (drop (row_size * r) m) → x ≡ row_at r m
+  reads_row : (x : List ℕ) (n : ℕ) → r < row_count → header_size ≤ length m → n ≡ row_size → x ≡ take n (drop (row_size * r) m) → x ≡ row_at r m
   unfolding row_at
   reads_row x n h g en ex = ex ∙ ap (λ k. take k (drop (row_size * r) m)) en ∙ sym (cond-true (has_row r m) (take row_size (drop (row_size * r) m)) (replicate row_size 0) (row_there h g))
-
-  pub no_row : has_row r m ≡ false → replicate row_size 0 ≡ row_at r m
-  unfolding row_at
-  no_row h = sym (cond-false (has_row r m) (take row_size (drop (row_size * r) m)) (replicate row_size 0) h)
 
   pub writes_row : (ws ys : List ℕ) (n : ℕ) → r < row_count → header_size ≤ length m → n ≡ row_size → ys ≡ ws → put_mid (row_size * r) n m ys ≡ with_row r ws m
   unfolding with_row
@@ -51,11 +47,7 @@ module _ (m : List ℕ) (r i : ℕ) where
         | inr h ↦ and_left (ltb i row_size) (has_row r m) (le-ltb i row_size h)
       ]
 
-  pub reads_word : i < row_size → r < row_count → header_size ≤ length m → get_or m (row_size * r + i) 0 ≡ word_at r i m
-  unfolding word_at
-  reads_word b h g = sym (cond-true (has_word r i m) (get_or m (row_size * r + i) 0) 0 (word_there b h g))
-
-  pub no_word : has_word r i m ≡ false → ◌≡◌ {A = ℕ} 0 (word_at r i m)
+  no_word : has_word r i m ≡ false → ◌≡◌ {A = ℕ} 0 (word_at r i m)
   unfolding word_at
   no_word h = sym (cond-false (has_word r i m) (get_or m (row_size * r + i) 0) 0 h)
 
@@ -66,6 +58,18 @@ module _ (m : List ℕ) (r i : ℕ) where
   pub no_word_write : (v : ℕ) → has_word r i m ≡ false → m ≡ with_word r i v m
   unfolding with_word
   no_word_write v h = sym (cond-false (has_word r i m) (set m (row_size * r + i) v) m h)
+
+  -- in a row that was read
+  pub word_of_row : (row : List ℕ) → has_row r m ≡ true → row ≡ take row_size (drop (row_size * r) m) → get_or row i 0 ≡ word_at r i m
+  unfolding word_at
+  word_of_row row h e =
+      elim (cases_lt i row_size) [
+        | inl b ↦ ap (λ t. get_or t i 0) e ∙ get_or-take row_size (drop (row_size * r) m) i 0 b ∙ get_or-drop (row_size * r) m i 0 ∙ sym (cond-true (has_word r i m) (get_or m (row_size * r + i) 0) 0 (and_from (ltb i row_size) (has_row r m) (lt-ltb i row_size b) h))
+        | inr b ↦ ap (λ t. get_or t i 0) e ∙ get_or_past (take row_size (drop (row_size * r) m)) i 0 (omega (arith, length-take row_size (drop (row_size * r) m))) ∙ no_word (and_left (ltb i row_size) (has_row r m) (le-ltb i row_size b))
+      ]
+
+  pub word_of_none : has_row r m ≡ false → ◌≡◌ {A = ℕ} 0 (word_at r i m)
+  word_of_none h = no_word (and_right (ltb i row_size) (has_row r m) h)
 
 -- IN AN IMAGE
 module _ (rs : List (List ℕ)) (ss : List Slot) (r : ℕ) (h : length rs ≡ row_count) (l : r < row_count) where

@@ -1,11 +1,11 @@
 -- Slots in any memory, and in an image.
-use Rattle.std.proofs.Common.{◌≡◌, ℕ, ◌+◌, ◌*◌, ◌<◌, ◌≤◌, true, false, List, [], ◌++◌, length, get_or, take, drop, set, None, Option, sym, ap, ◌∙◌, arith}
+use Rattle.std.proofs.Common.{◌≡◌, ℕ, ◌+◌, ◌-◌, ◌*◌, ◌<◌, ◌≤◌, true, false, List, [], ◌++◌, length, get_or, take, drop, set, Some, None, Option, MatchOption, sym, ap, ◌∙◌, arith}
 use borrow.Rule.Slice.PartMut.{put_mid}
 use Rattle.std.specs.List.{flat_map}
-use Rattle.std.proofs.lemmas.List.{length-append}
+use Rattle.std.proofs.lemmas.List.{length-append, length-take, length-drop, take_all}
+use Rattle.std.specs.Array.{IsFirstChunk}
+use Rattle.std.specs.declared.ops.Range.{Range}
 use Rattle.std.proofs.lemmas.Bool.{cond-true, cond-false, le-leb, lt-leb}
-use Rattle.puts.specs.Values.{Put}
-use Rattle.puts.specs.declared.words.Head.{Head}
 use Rattle.puts.specs.Values.{pad}
 use Rattle.puts.specs.Words.{slot_size, put_in, head_in, if_put, Slot, slot_words, code_slot, code_head, FitSlot}
 use Rattle.puts.proofs.Blocks.{joined_length, joined_read, joined_write, mid_after, drop_after}
@@ -22,17 +22,18 @@ module _ (m : List ℕ) (k : ℕ) where
   missing : length m < slot_start k + slot_size → has_slot k m ≡ false
   missing h = lt-leb (slot_start k + slot_size) (length m) h
 
-  pub reads_put : (r : Option Put) (start n : ℕ) → start ≡ slot_start k → start + slot_size ≤ length m → n ≡ slot_size → r ≡ if_put (take n (drop start m)) (put_in (take n (drop start m))) → r ≡ put_at k m
-  unfolding put_at
-  reads_put r start n e h en er =
-      let le : slot_start k + slot_size ≤ length m = omega arith in
-      er ∙ (λ i. if_put (take (en i) (drop (e i) m)) (put_in (take (en i) (drop (e i) m)))) ∙ sym (cond-true (has_slot k m) (if_put (slot_at k m) (put_in (slot_at k m))) None (there le))
-
-  pub reads_head : (r : Option Head) (start n : ℕ) → start ≡ slot_start k → start + slot_size ≤ length m → n ≡ slot_size → r ≡ if_put (take n (drop start m)) (head_in (take n (drop start m))) → r ≡ head_at k m
-  unfolding head_at
-  reads_head r start n e h en er =
-      let le : slot_start k + slot_size ≤ length m = omega arith in
-      er ∙ (λ i. if_put (take (en i) (drop (e i) m)) (head_in (take (en i) (drop (e i) m)))) ∙ sym (cond-true (has_slot k m) (if_put (slot_at k m) (head_in (slot_at k m))) None (there le))
+  -- the first words of the slot's part of the memory
+  pub first_is : {A : Type 0} (now : A → List ℕ) (r : Option A) (p : Range ℕ) → p ≡ record { start = slot_start k; end = slot_start k + slot_size } → slot_start k + slot_size ≤ length m →
+      MatchOption r (length (take (p.end - p.start) (drop p.start m)) < slot_size) (λ y. IsFirstChunk (take (p.end - p.start) (drop p.start m)) (now y) slot_size) →
+      MatchOption r (has_slot k m ≡ false) (λ y. (has_slot k m ≡ true) × (now y ≡ slot_at k m))
+  first_is now r p e h f =
+      let n : (slot_start k + slot_size) - slot_start k ≡ slot_size = omega arith in
+      let s : take (p.end - p.start) (drop p.start m) ≡ slot_at k m = (λ i. take ((e i).end - (e i).start) (drop (e i).start m)) ∙ ap (λ n. take n (drop (slot_start k) m)) n in
+      let l : length (slot_at k m) ≡ slot_size = omega (arith, length-take slot_size (drop (slot_start k) m), length-drop (slot_start k) m) in
+      elim r as (λ r. MatchOption r (length (take (p.end - p.start) (drop p.start m)) < slot_size) (λ y. IsFirstChunk (take (p.end - p.start) (drop p.start m)) (now y) slot_size) → MatchOption r (has_slot k m ≡ false) (λ y. (has_slot k m ≡ true) × (now y ≡ slot_at k m))) [
+        | Some y ↦ λ c. (there h, c.same ∙ ap (take slot_size) s ∙ take_all slot_size (slot_at k m) (omega arith))
+        | None ↦ λ c. absurd (omega (arith, ap length s))
+      ] f
 
   pub writes : (ws ys : List ℕ) (start n : ℕ) → start ≡ slot_start k → start + slot_size ≤ length m → n ≡ slot_size → ys ≡ ws → put_mid start n m ys ≡ with_slot k ws m
   unfolding with_slot
@@ -40,27 +41,9 @@ module _ (m : List ℕ) (k : ℕ) where
       let le : slot_start k + slot_size ≤ length m = omega arith in
       (λ i. put_mid (e i) (en i) m (ey i)) ∙ sym (cond-true (has_slot k m) (put_mid (slot_start k) slot_size m ws) m (there le))
 
-  pub no_put : length m < slot_start k + slot_size → None ≡ put_at k m
-  unfolding put_at
-  no_put h = sym (cond-false (has_slot k m) (if_put (slot_at k m) (put_in (slot_at k m))) None (missing h))
-
-  pub no_head : length m < slot_start k + slot_size → None ≡ head_at k m
-  unfolding head_at
-  no_head h = sym (cond-false (has_slot k m) (if_put (slot_at k m) (head_in (slot_at k m))) None (missing h))
-
   pub no_write : (ws : List ℕ) → length m < slot_start k + slot_size → m ≡ with_slot k ws m
   unfolding with_slot
   no_write ws h = sym (cond-false (has_slot k m) (put_mid (slot_start k) slot_size m ws) m (missing h))
-
-  pub no_copy : (to : ℕ) → length m < slot_start k + slot_size → m ≡ with_copy k to m
-  unfolding with_copy
-  no_copy to h = sym (cond-false (has_slot k m) (with_slot to (slot_at k m) m) m (missing h))
-
-  pub copies : (to : ℕ) (x part : List ℕ) (start n : ℕ) → start ≡ slot_start k → start + slot_size ≤ length m → n ≡ slot_size → part ≡ take n (drop start m) → x ≡ with_slot to part m → x ≡ with_copy k to m
-  unfolding with_copy
-  copies to x part start n e h en ep ex =
-      let le : slot_start k + slot_size ≤ length m = omega arith in
-      ex ∙ ap (λ p. with_slot to p m) (ep ∙ (λ i. take (en i) (drop (e i) m))) ∙ sym (cond-true (has_slot k m) (with_slot to (slot_at k m) m) m (there le))
 
 -- IN AN IMAGE
 pub header_length : (rs : List (List ℕ)) → length rs ≡ row_count → length (header rs) ≡ header_size
