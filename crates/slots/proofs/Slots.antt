@@ -45,6 +45,16 @@ module _ (m : List ℕ) (k : ℕ) where
   unfolding with_slot
   no_write ws h = sym (cond-false (has_slot k m) (put_mid (slot_start k) slot_size m ws) m (missing h))
 
+  pub no_copy : (to : ℕ) → length m < slot_start k + slot_size → m ≡ with_copy k to m
+  unfolding with_copy
+  no_copy to h = sym (cond-false (has_slot k m) (with_slot to (slot_at k m) m) m (missing h))
+
+  pub copies : (to : ℕ) (x part : List ℕ) (start n : ℕ) → start ≡ slot_start k → start + slot_size ≤ length m → n ≡ slot_size → part ≡ take n (drop start m) → x ≡ with_slot to part m → x ≡ with_copy k to m
+  unfolding with_copy
+  copies to x part start n e h en ep ex =
+      let le : slot_start k + slot_size ≤ length m = omega arith in
+      ex ∙ ap (λ p. with_slot to p m) (ep ∙ (λ i. take (en i) (drop (e i) m))) ∙ sym (cond-true (has_slot k m) (with_slot to (slot_at k m) m) m (there le))
+
 -- IN AN IMAGE
 pub header_length : (rs : List (List ℕ)) → length rs ≡ row_count → length (header rs) ≡ header_size
 unfolding header

@@ -76,29 +76,26 @@ pub fn write_slot(mem: &mut [u64], k: usize, p: &Put)
     }
 }
 
-// Other words in slot `k`.
 #[tactic(auto, using(crate::proofs::Slots::writes, crate::proofs::Slots::no_write))]
-fn set_slot(mem: &mut [u64], k: usize, part: &[u64; SLOT])
-    ensures { mem.new ≡ with_slot k part.now mem.old }
-{
-    if let Some(place) = slot_place(mem.len(), k) {
-        mem[place].copy_from_slice(part);
-    }
-}
-
 pub fn clear_slot(mem: &mut [u64], k: usize)
     ensures { mem.new ≡ with_slot k (replicate slot_size 0) mem.old }
 {
-    set_slot(mem, k, &[0; SLOT]);
+    if let Some(place) = slot_place(mem.len(), k) {
+        mem[place].fill(0);
+    }
 }
 
 // What stands in slot `from` stands in slot `to` too.
-#[tactic(auto, unfolding(crate::specs::Image::with_copy))]
+#[tactic(auto, using(crate::proofs::Slots::writes, crate::proofs::Slots::no_write, crate::proofs::Slots::copies, crate::proofs::Slots::no_copy))]
 pub fn copy_slot(mem: &mut [u64], from: usize, to: usize)
     ensures { mem.new ≡ with_copy from to mem.old }
 {
-    if let Some(&part) = slot(mem, from) {
-        set_slot(mem, to, &part);
+    if let Some(there) = slot_place(mem.len(), from) {
+        let mut part = [0; SLOT];
+        part.copy_from_slice(&mem[there]);
+        if let Some(here) = slot_place(mem.len(), to) {
+            mem[here].copy_from_slice(&part);
+        }
     }
 }
 
