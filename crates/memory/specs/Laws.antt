@@ -9,8 +9,8 @@ use Rattle.puts.specs.Words.{Slot, slot_words}
 use Rattle.slots.specs.Image.{memory, with_slot}
 use Rattle.memory.specs.declared.Limits.{Limits as CodeLimits}
 use Rattle.memory.specs.declared.Layout.{Layout}
-use Rattle.memory.specs.declared.Refusal.{Refusal}
-use Rattle.memory.specs.Layout.{code_limits, model_limits, layout_of, total, words, InRange, me_at, limits_at, Room, out_of_range}
+use Rattle.memory.specs.declared.OutOfRange.{OutOfRange}
+use Rattle.memory.specs.Layout.{code_limits, model_limits, layout_of, total, words, InRange, me_at, limits_at, Room}
 use Rattle.memory.specs.Image.{queue, ring, rows, encode}
 use Rattle.memory.specs.Valid.{Sound, Fits, Valid}
 
@@ -50,11 +50,11 @@ pub record Opened (x : CodeLimits) (me : ℕ) (before after : List ℕ) : Type 0
   pub image : (can : ℕ → Bool) → after ≡ encode (model_limits can x) (new_replica (model_limits can x) me) ++ drop (total x) before
 
 -- or a refusal, if there is no room: then the memory is as it was
-abbrev pub Opening : CodeLimits → ℕ → List ℕ → List ℕ → Result Layout Refusal → Type 0
+abbrev pub Opening : CodeLimits → ℕ → List ℕ → List ℕ → Result Layout OutOfRange → Type 0
 Opening x me before after r =
-    MatchResult r (λ a. (a ≡ layout_of x) × Opened x me before after) (λ e. (e ≡ out_of_range) × ((Room x me before → ⊥) × (after ≡ before)))
+    MatchResult r (λ a. (a ≡ layout_of x) × Opened x me before after) (λ _. (Room x me before → ⊥) × (after ≡ before))
 
 -- the limits and the number that the header of a memory says, or a refusal, if there is no room for such a replica
-abbrev pub HeaderSays : List ℕ → Result (CodeLimits × ℕ) Refusal → Type 0
+abbrev pub HeaderSays : List ℕ → Result (CodeLimits × ℕ) OutOfRange → Type 0
 HeaderSays m r =
-    MatchResult r (λ x. (x ≡ (limits_at m, me_at m)) × Room x.0 x.1 m) (λ e. (e ≡ out_of_range) × (Room (limits_at m) (me_at m) m → ⊥))
+    MatchResult r (λ x. (x ≡ (limits_at m, me_at m)) × Room x.0 x.1 m) (λ _. Room (limits_at m) (me_at m) m → ⊥)

@@ -5,7 +5,7 @@ use Rattle.puts.specs.Words.{slot_size}
 use Rattle.slots.specs.Image.{header_size, row_at}
 use Rattle.memory.specs.declared.Limits.{Limits as CodeLimits}
 use Rattle.memory.specs.declared.Layout.{Layout}
-use Rattle.memory.specs.declared.Refusal.{Refusal}
+use Rattle.puts.specs.declared.event.Refusal.{Refusal}
 
 -- the limits of the code for those of the model
 abbrev pub code_limits : Limits → CodeLimits
@@ -97,6 +97,6 @@ pub record Room (x : CodeLimits) (i : ℕ) (m : List ℕ) : Type 0 where
   pub me : i < x.replicas
   pub words : total x ≤ length m
 
--- a refusal: out of range
+-- such a refusal, by its number: out of range
 abbrev pub out_of_range : Refusal
 out_of_range = record { number = 2; place = 0 }

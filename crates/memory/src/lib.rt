@@ -1,18 +1,21 @@
 // The memory of a replica: its layout, and opening it. All of the state is there, limits and the replica's own number too.
 #![tactic(auto)]
 
-ghost use Rattle.std.specs.Prelude.{◌≡◌, ℕ, ◌+◌, ◌*◌, ◌<◌, Bool, List, ◌++◌, length, Ok, Decides, MatchOption};
+ghost use Rattle.std.specs.Prelude.{◌≡◌, ℕ, ◌+◌, ◌*◌, ◌<◌, Bool, List, ◌++◌, length, Some, Ok, Decides, MatchResult, codes};
 ghost use Rattle.model.specs.Limits.{Limits as ModelLimits};
 ghost use Rattle.model.specs.Replica.{Replica as ModelReplica, new_replica};
-ghost use Rattle.memory.specs.Layout.{code_limits, model_limits, InRange, layout_of, total, Room};
+ghost use Rattle.memory.specs.Layout.{code_limits, model_limits, InRange, layout_of, total, Room, out_of_range};
 ghost use Rattle.memory.specs.Image.{encode};
 ghost use Rattle.memory.specs.Valid.{Valid};
 ghost use Rattle.memory.specs.Laws.{Opening, HeaderSays, CameIsSound, WordsOfLayout, ImageSize, WordsFit, ImageFaithful, RegionLaws};
 ghost use Rattle.memory.specs.State.{StateRead, StateWritten};
 
+use puts::event::Refusal;
 use puts::words::SLOT;
 use puts::{COUNTS, Clock};
 use slots::{HEADER, read_row, write_row};
+use std::error::Error;
+use std::fmt;
 
 // The limits at opening.
 #[derive(Clone, Copy)]
@@ -38,11 +41,29 @@ pub struct Layout {
     pub waiting: Region,
 }
 
-// Which refusal, and the place.
-#[derive(Clone, Copy)]
-pub struct Refusal {
-    pub number: u64,
-    pub place: u64,
+// No replica can be opened so: the limits or its number are out of range, or the memory is too small.
+#[derive(Clone, Copy, Debug, PartialEq, Eq)]
+pub struct OutOfRange;
+
+impl fmt::Display for OutOfRange {
+    ghost output = { λ _. Some (codes "out of range") };
+
+    fn fmt<W: fmt::Write>(&self, f: &mut fmt::Formatter<W>) -> fmt::Result {
+        write!(f, "out of range")
+    }
+}
+
+impl Error for OutOfRange {}
+
+impl From<OutOfRange> for Refusal {
+    ghost from_gives = { λ _ refusal. refusal ≡ out_of_range };
+
+    fn from(_e: OutOfRange) -> Refusal {
+        Refusal {
+            number: 2,
+            place: 0,
+        }
+    }
 }
 
 // The most of each, beside as many replicas as a clock has counts.
@@ -74,11 +95,6 @@ pub const LOG: usize = 5;
 
 pub const WAITING: usize = 6;
 
-const OUT_OF_RANGE: Refusal = Refusal {
-    number: 2,
-    place: 0,
-};
-
 impl Limits {
     // Where the regions lie.
     pub fn layout(self) -> Layout
@@ -105,31 +121,25 @@ impl Limits {
     pub fn in_range(self) -> bool
         ensures { Decides result (InRange self) }
     {
-        if self.replicas < 1 || self.replicas > COUNTS {
-            return false;
-        }
-        if self.keys < 1 || self.keys > KEYS_MOST {
-            return false;
-        }
-        if self.log < 1 || self.log > LOG_MOST {
-            return false;
-        }
-        self.waiting <= WAITING_MOST
+        (1..=COUNTS).contains(&self.replicas)
+            && (1..=KEYS_MOST).contains(&self.keys)
+            && (1..=LOG_MOST).contains(&self.log)
+            && self.waiting <= WAITING_MOST
     }
 }
 
-// How many words such a replica takes, if `len` words are enough.
-fn words_for(limits: Limits, me: usize, len: usize) -> Option<usize>
-    ensures { MatchOption result ((m : List ℕ) → length m ≡ len → Room limits me m → ⊥) (λ n. (n ≡ total limits) × ((m : List ℕ) → length m ≡ len → Room limits me m)) }
+// How many words such a replica takes, if `len` words are enough. Limits and number stay apart, as `open` takes them: a struct of both would be made and taken apart at each call.
+fn words_for(limits: Limits, me: usize, len: usize) -> Result<usize, OutOfRange>
+    ensures { MatchResult result (λ n. (n ≡ total limits) × ((m : List ℕ) → length m ≡ len → Room limits me m)) (λ _. (m : List ℕ) → length m ≡ len → Room limits me m → ⊥) }
 {
     if !limits.in_range() || me >= limits.replicas {
-        return None;
+        return Err(OutOfRange);
     }
     let n = HEADER + SLOT * (limits.keys + limits.log + limits.waiting);
     if n > len {
-        return None;
+        return Err(OutOfRange);
     }
-    Some(n)
+    Ok(n)
 }
 
 // A new replica in all of a part of the memory.
@@ -147,18 +157,16 @@ fn start(part: &mut [u64], limits: Limits, me: usize)
 }
 
 // Opens replica `me` in the first words of the memory. If limits or `me` are out of range, or the memory is too small, the memory stays as it is.
-pub fn open(mem: &mut [u64], limits: Limits, me: usize) -> Result<Layout, Refusal>
+pub fn open(mem: &mut [u64], limits: Limits, me: usize) -> Result<Layout, OutOfRange>
     ensures { Opening limits me mem.old mem.new result }
 {
-    let Some(n) = words_for(limits, me, mem.len()) else {
-        return Err(OUT_OF_RANGE);
-    };
+    let n = words_for(limits, me, mem.len())?;
     start(&mut mem[..n], limits, me);
     Ok(limits.layout())
 }
 
 // The limits of the replica whose memory this is, and its number; or a refusal, if it is no replica's.
-pub fn limits_of(mem: &[u64]) -> Result<(Limits, usize), Refusal>
+pub fn limits_of(mem: &[u64]) -> Result<(Limits, usize), OutOfRange>
     ensures any { HeaderSays mem.now result }
     ensures image { (l : ModelLimits) (s : ModelReplica) (rest : List ℕ) → Valid l s → mem.now ≡ encode l s ++ rest → result ≡ Ok (code_limits l, s.delivery.me) }
 {
@@ -170,9 +178,7 @@ pub fn limits_of(mem: &[u64]) -> Result<(Limits, usize), Refusal>
         log: row[LOG] as usize,
         waiting: row[WAITING] as usize,
     };
-    let Some(_n) = words_for(limits, me, mem.len()) else {
-        return Err(OUT_OF_RANGE);
-    };
+    words_for(limits, me, mem.len())?;
     Ok((limits, me))
 }
 
@@ -184,7 +190,7 @@ pub struct Replica<'a> {
 
 impl<'a> Replica<'a> {
     // Opened, or handed back as it was.
-    pub fn opened(self, limits: Limits, me: usize) -> (Replica<'a>, Result<Layout, Refusal>)
+    pub fn opened(self, limits: Limits, me: usize) -> (Replica<'a>, Result<Layout, OutOfRange>)
         ensures { Opening limits me self.entry.mem.now result.0.mem.now result.1 }
     {
         let r = open(self.mem, limits, me);
@@ -193,57 +199,41 @@ impl<'a> Replica<'a> {
 }
 
 // WHAT IS PROVED OF THE LAYOUT AND THE IMAGE. The words of a layout: 32 for each key, log entry and waiting entry, and 512.
-pub fn words_of_layout() -> u8
+pub fn words_of_layout()
     ensures { WordsOfLayout }
-{
-    0
-}
+{}
 
 // An image has exactly these words.
-pub fn image_size() -> u8
+pub fn image_size()
     ensures { ImageSize }
-{
-    0
-}
+{}
 
 // Each below 2^64.
-pub fn words_fit() -> u8
+pub fn words_fit()
     ensures { WordsFit }
-{
-    0
-}
+{}
 
 // Two valid states with the same image are the same.
-pub fn image_faithful() -> u8
+pub fn image_faithful()
     ensures { ImageFaithful }
-{
-    0
-}
+{}
 
 // Writing slot i of a region changes that element and nothing else.
-pub fn region_laws() -> u8
+pub fn region_laws()
     ensures { RegionLaws }
-{
-    0
-}
+{}
 
 // What a read of the memory says of the state, in any state that fits.
-pub fn state_read() -> u8
+pub fn state_read()
     ensures { StateRead }
-{
-    0
-}
+{}
 
 // And what a write to it makes of the state.
-pub fn state_written() -> u8
+pub fn state_written()
     ensures { StateWritten }
-{
-    0
-}
+{}
 
 // What passes the range checks has its place in a slot.
-pub fn came_is_sound() -> u8
+pub fn came_is_sound()
     ensures { CameIsSound }
-{
-    0
-}
+{}
