@@ -18,7 +18,7 @@ use std::error::Error;
 use std::fmt;
 
 // The limits at opening.
-#[derive(Clone, Copy)]
+#[derive(Clone, Copy, PartialEq, Eq)]
 pub struct Limits {
     pub replicas: usize,
     pub keys: usize,

@@ -14,38 +14,39 @@ mod tests {
     // What fills the memory before.
     const OLD: u64 = 7;
 
-    // Limits, a replica's number, and whether it can be opened.
-    const CASES: [(usize, usize, usize, usize, usize, bool); 21] = [
-        (0, 1, 1, 0, 0, false),
-        (1, 1, 1, 0, 0, true),
-        (1, 1, 1, 0, 1, false),
-        (16, 1, 1, 0, 15, true),
-        (16, 1, 1, 0, 16, false),
-        (17, 1, 1, 0, 0, false),
-        (3, 0, 1, 0, 0, false),
-        (3, 1, 1, 0, 2, true),
-        (3, 4096, 1, 0, 2, true),
-        (3, 4097, 1, 0, 2, false),
-        (3, 2, 0, 0, 0, false),
-        (3, 2, 1, 0, 1, true),
-        (3, 2, 1024, 0, 1, true),
-        (3, 2, 1025, 0, 1, false),
-        (3, 2, 2, 0, 0, true),
-        (3, 2, 2, 1, 0, true),
-        (3, 2, 2, 1024, 0, true),
-        (3, 2, 2, 1025, 0, false),
-        (16, 4096, 1024, 1024, 15, true),
-        (17, 17, 17, 17, 17, false),
-        (0, 0, 0, 0, 0, false),
+    // Replicas, keys, log, waiting, and a replica's number.
+    type Case = (usize, usize, usize, usize, usize);
+
+    // Those that can be opened, and those that can't.
+    const GOOD: [Case; 10] = [
+        (1, 1, 1, 0, 0),
+        (16, 1, 1, 0, 15),
+        (3, 1, 1, 0, 2),
+        (3, 4096, 1, 0, 2),
+        (3, 2, 1, 0, 1),
+        (3, 2, 1024, 0, 1),
+        (3, 2, 2, 0, 0),
+        (3, 2, 2, 1, 0),
+        (3, 2, 2, 1024, 0),
+        (16, 4096, 1024, 1024, 15),
+    ];
+
+    const BAD: [Case; 11] = [
+        (0, 1, 1, 0, 0),
+        (1, 1, 1, 0, 1),
+        (16, 1, 1, 0, 16),
+        (17, 1, 1, 0, 0),
+        (3, 0, 1, 0, 0),
+        (3, 4097, 1, 0, 2),
+        (3, 2, 0, 0, 0),
+        (3, 2, 1025, 0, 1),
+        (3, 2, 2, 1025, 0),
+        (17, 17, 17, 17, 17),
+        (0, 0, 0, 0, 0),
     ];
 
     fn all_old(mem: &[u64]) -> bool {
-        for x in mem {
-            if *x != OLD {
-                return false;
-            }
-        }
-        true
+        mem.iter().all(|x| *x == OLD)
     }
 
     // The words that such a replica takes.
@@ -57,46 +58,50 @@ mod tests {
         slots.wrapping_mul(32).wrapping_add(512)
     }
 
-    // Opens in `len` words, and checks what became of them: of a refused opening nothing; else the rest is as it was, and the header says the limits.
-    fn opens(
-        rt: &impl Abort,
-        heap: Global,
-        limits: Limits,
-        me: usize,
-        len: usize,
-        good: bool,
-    ) -> Result<(), Fail> {
+    fn limits_in(case: Case) -> Limits {
+        let (replicas, keys, log, waiting, _me) = case;
+        Limits {
+            replicas,
+            keys,
+            log,
+            waiting,
+        }
+    }
+
+    // Opened in `len` words: the header says the limits, and the rest is as it was.
+    fn opens(rt: &impl Abort, heap: Global, case: Case, len: usize) -> Result<(), Fail> {
+        let limits = limits_in(case);
         let mut mem = vec![in heap; OLD; len]?;
-        let Ok(_at) = open(mem.as_mut_slice(), limits, me) else {
-            assert!(rt; !good);
-            assert!(rt; all_old(mem.as_slice()));
-            return Ok(());
-        };
-        assert!(rt; good);
-        let Ok((found, who)) = limits_of(mem.as_slice()) else {
-            return Err(Fail::new("no header"));
-        };
-        assert!(rt; who == me && found.replicas == limits.replicas && found.keys == limits.keys);
-        assert!(rt; found.log == limits.log && found.waiting == limits.waiting);
+        open(mem.as_mut_slice(), limits, case.4)?;
+        let (found, who) = limits_of(mem.as_slice())?;
+        assert!(rt; found == limits && who == case.4);
         let n = words(&limits);
         assert!(rt; n <= len);
         assert!(rt; all_old(&mem.as_slice()[n..len]));
         Ok(())
     }
 
+    // Refused, and all is as it was.
+    fn refuses(rt: &impl Abort, heap: Global, case: Case, len: usize) -> Result<(), Fail> {
+        let mut mem = vec![in heap; OLD; len]?;
+        assert!(rt; open(mem.as_mut_slice(), limits_in(case), case.4).is_err());
+        assert!(rt; all_old(mem.as_slice()));
+        Ok(())
+    }
+
     #[test]
     fn edges(rt: HostRuntime) -> Result<(), Fail> {
-        for (replicas, keys, log, waiting, me, good) in CASES {
-            let limits = Limits {
-                replicas,
-                keys,
-                log,
-                waiting,
-            };
-            let n = words(&limits);
-            opens(&rt, rt.alloc(), limits, me, n, good)?;
-            opens(&rt, rt.alloc(), limits, me, n.wrapping_add(40), good)?;
-            opens(&rt, rt.alloc(), limits, me, n.wrapping_sub(1), false)?;
+        for good in GOOD {
+            let n = words(&limits_in(good));
+            opens(&rt, rt.alloc(), good, n)?;
+            opens(&rt, rt.alloc(), good, n.wrapping_add(40))?;
+            refuses(&rt, rt.alloc(), good, n.wrapping_sub(1))?;
+        }
+        for bad in BAD {
+            let n = words(&limits_in(bad));
+            refuses(&rt, rt.alloc(), bad, n)?;
+            refuses(&rt, rt.alloc(), bad, n.wrapping_add(40))?;
+            refuses(&rt, rt.alloc(), bad, n.wrapping_sub(1))?;
         }
         Ok(())
     }
@@ -119,7 +124,7 @@ mod tests {
             from: 2,
             seen,
             key: 9,
-            text: Text::from_bytes(value)?,
+            value: Text::from_bytes(value)?,
         })
     }
 
@@ -133,7 +138,7 @@ mod tests {
         assert!(rt; read_slot(&mem, 1).is_none() && read_slot(&mem, 4).is_none());
         let q = read_slot(&mem, 3).ok_or("no put")?;
         assert!(rt; q.from == 2 && q.key == 9 && q.seen.count(2) == 2 && q.seen.count(15) == 1);
-        assert!(rt; q.text.same(&p.text) && !q.later(&p) && q.number() == 3);
+        assert!(rt; q.value == p.value && !q.later(&p) && q.number() == 3);
         let Head { from, number } = read_head(&mem, 3).ok_or("no head")?;
         assert!(rt; from == 2 && number == 3);
         Ok(())
