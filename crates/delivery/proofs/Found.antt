@@ -1,5 +1,5 @@
 -- What `find_map` finds over a range, said of the numbers in it.
-use Rattle.std.proofs.Common.{◌≡◌, ℕ, ◌+◌, ◌<◌, Some, None, Option, sym, ap, ◌∙◌, subst, arith}
+use Rattle.std.proofs.Common.{◌≡◌, ℕ, ◌+◌, ◌<◌, Some, None, Option, ap, ◌∙◌, subst, arith}
 use Rattle.std.specs.Bool.{IsTrue}
 use Rattle.std.specs.Fn.{Called}
 use Rattle.std.specs.Option.{option_map, MatchOption, IfSome, IsSomeAnd}

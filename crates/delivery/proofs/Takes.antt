@@ -2,7 +2,6 @@
 use Rattle.std.proofs.Common.{◌≡◌, ℕ, suc, ◌+◌, ◌-◌, ◌<◌, ◌≤◌, Bool, true, false, cond, not, eqb, ltb, leb, ◌≢◌, List, [], ◌∷◌, ◌++◌, length, set, Some, None, Option, sym, refl, ap, ◌∙◌, subst, arith}
 use Rattle.std.proofs.lemmas.List.{length_push, length-set, set-get_or}
 use Rattle.std.proofs.ByRecursion.{All-get_or, All-from_get_or, All-push}
-use Rattle.std.specs.Bool.{IsTrue}
 use Rattle.std.specs.Option.{MatchOption}
 use Rattle.std.proofs.lemmas.Option.{MatchOption-at_none, MatchOption-at_some}
 use Rattle.std.proofs.lemmas.Bool.{cond_both, ltb-true, leb-true, eqb-true, and_parts, eq-eqb, ne_eqb}
@@ -118,7 +117,7 @@ later_is l q (x ∷ xs) p old b sq ss ep eo f =
     ap (λ t. cond t (q ∷ []) (x ∷ [])) (sym g) ∙ ap (λ t. cond b (q ∷ []) (x ∷ t)) (sym ss.1)
 
 -- whether the new one is written
-pub wins_is : (l : Limits) (q : Put Body) (s : Slot) (p : CodePut) (o : Option CodePut) (b : Bool) (P : CodePut → Type 0) → Sound l q → SoundSlot l s → p ≡ code_put q → o ≡ code_slot s → MatchOption o (IsTrue b) P →
+pub wins_is : (l : Limits) (q : Put Body) (s : Slot) (p : CodePut) (o : Option CodePut) (b : Bool) (P : CodePut → Type 0) → Sound l q → SoundSlot l s → p ≡ code_put q → o ≡ code_slot s → MatchOption o (b ≡ true) P →
     ((old : CodePut) → P old → Small p.seen.counts → Small old.seen.counts → b ≡ later (put_of p) (put_of old)) → stand q s ≡ cond b (q ∷ []) s
 unfolding stand code_slot SoundSlot
 wins_is l q [] p o b P sq ss ep eo m f = sym (ap (λ t. cond t (q ∷ []) []) (MatchOption-at_none _ _ eo m))

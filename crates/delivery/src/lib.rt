@@ -47,8 +47,8 @@ fn waits_at(replica: &Replica<'_>, i: usize, from: u64, number: u64) -> bool
     requires { i ≤ replica.now.at.layout.waiting.count }
     ensures { (l : Limits) (r : ModelReplica) (q d : ModelPut Body) → Stands l r replica.now → i < length r.delivery.waiting → from ≡ q.from → number ≡ number_of q → result ≡ same_put q (slice_index_or r.delivery.waiting i d) }
 {
-    read_head(replica.mem, replica.at.waiting_slot(i)).is_some_and(|head| head.from == from
-        && head.number == number)
+    let slot = replica.at.waiting_slot(i);
+    read_head(replica.mem, slot).is_some_and(|head| from == head.from && number == head.number)
 }
 
 // A put with this head waits.
@@ -105,7 +105,7 @@ pub fn enqueue(replica: &mut Replica<'_>, p: &Put)
 fn wins(replica: &Replica<'_>, p: &Put) -> bool
     ensures { (l : Limits) (r : ModelReplica) (q : ModelPut Body) → Fitted l r replica.now.mem.now → Sound l q → p.now ≡ code_put q → stands q (shown r.store (key_of q.body)) ≡ (if result then q ∷ [] else shown r.store (key_of q.body)) }
 {
-    replica.value_at(p.key).is_none_or(|old| p.later(&old))
+    replica.value_at(p.key).map_or(true, |old| p.later(&old))
 }
 
 // Then it stands there.
@@ -123,8 +123,8 @@ fn had_at(replica: &Replica<'_>, i: usize, clock: &Clock) -> bool
     requires { i ≤ replica.now.at.layout.waiting.count }
     ensures { (rs : List (List ℕ)) (ss : List Slot) (q : ModelPut Body) (c : ModelClock) → length rs ≡ row_count → replica.now.at.layout.waiting.base + i < length ss → slice_index_or ss (replica.now.at.layout.waiting.base + i) [] ≡ q ∷ [] → Fit q → length c ≤ clock_size → clock.now ≡ code_clock c → replica.now.mem.now ≡ memory rs ss → result ≡ is_had c q }
 {
-    read_head(replica.mem, replica.at.waiting_slot(i)).is_some_and(|head| head.number
-        <= clock.count(head.from))
+    let slot = replica.at.waiting_slot(i);
+    read_head(replica.mem, slot).is_some_and(|head| head.number <= clock.count(head.from))
 }
 
 // What stands in slot `i` of what waits stands in slot `to` of it.
@@ -271,10 +271,12 @@ pub fn deliver(replica: &mut Replica<'_>, p: &Put)
     ensures same { Same replica.old replica.new }
     ensures does { (l : Limits) (r : ModelReplica) (q : ModelPut Body) → Held l r replica.old → Sound l q → possible r.delivery (came q) ≡ true → queue_room l r.delivery (came q) ≡ true → p.now ≡ code_put q → Held l (moved (delivered l q r.delivery) r.store) replica.new }
 {
-    if nothing_new(replica, p) {
+    let again = nothing_new(replica, p);
+    if again {
         return;
     }
-    if ready(replica, p) {
+    let next = ready(replica, p);
+    if next {
         take_other(replica, p);
         settle(replica);
     } else {
