@@ -42,10 +42,6 @@ pub chosen_none : (b : Bool) (q : Put Body) → b ≡ false → None ≡ code_sl
 unfolding code_slot
 chosen_none b q e = sym (ap (λ t. code_slot (cond t (q ∷ []) [])) e)
 
-pub chosen_some : (b : Bool) (q : Put Body) (p : CodePut) → b ≡ true → p ≡ code_put q → Some p ≡ code_slot (cond b (q ∷ []) [])
-unfolding code_slot
-chosen_some b q p e h = ap (λ x. Some x) h ∙ sym (ap (λ t. code_slot (cond t (q ∷ []) [])) e)
-
 pub chosen_is : (b : Bool) (q : Put Body) → then_some b (code_put q) ≡ code_slot (cond b (q ∷ []) [])
 unfolding code_slot
 chosen_is true q = refl

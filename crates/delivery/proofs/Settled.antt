@@ -12,7 +12,7 @@ use Rattle.model.specs.Replica.{Replica, came, possible, queue_room, moved}
 use Rattle.model.proofs.Clocks.{Below, tick_up}
 use Rattle.memory.specs.State.{with_waiting}
 use Rattle.logs.specs.declared.Replica.{Replica as Lent}
-use Rattle.logs.specs.State.{Fitted, Held}
+use Rattle.logs.specs.State.{Held}
 use Rattle.logs.proofs.Changes.{begun}
 use Rattle.puts.specs.Values.{Put as CodePut}
 use Rattle.puts.specs.Values.{code_put}
@@ -119,12 +119,6 @@ unfolding settle
 settle_none n m e = ap (λ k. settle k m) e
 
 -- nothing waits
-pub clean_empty : (l : Limits) (r : Replica) (x : List ℕ) → length r.delivery.waiting ≡ 0 → Fitted l r x → Fitted l (with_waiting (lacking r.delivery.clock r.delivery.waiting) r) x
-clean_empty l r x e f =
-    let none : r.delivery.waiting ≡ [] = nil_from_length r.delivery.waiting e in
-    let W : List (Put Body) → Type 0 = λ ws. Fitted l (with_waiting ws r) x in
-    subst W (none ∙ sym (ap (lacking r.delivery.clock) none)) f
-
 pub settled_empty : (l : Limits) (m : Run Body) (s : Store) (x : Lent) (u : Unswept l m s x) → length u.all ≡ 0 → Held l (moved (settle l.waiting_most m) s) x
 unfolding first_ready
 settled_empty l m s x u e =

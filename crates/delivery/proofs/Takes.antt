@@ -1,6 +1,6 @@
 -- A put is taken: the state stays valid.
 use Rattle.std.proofs.Common.{◌≡◌, ℕ, suc, ◌+◌, ◌-◌, ◌<◌, ◌≤◌, Bool, true, false, cond, not, eqb, ltb, leb, ◌≢◌, List, [], ◌∷◌, ◌++◌, length, set, Some, None, Option, sym, refl, ap, ◌∙◌, subst, arith}
-use Rattle.std.proofs.lemmas.List.{length_push, length-set, set-get_or}
+use Rattle.std.proofs.lemmas.List.{length_push, length-set}
 use Rattle.std.proofs.ByRecursion.{All-get_or, All-from_get_or, All-push}
 use Rattle.std.specs.Option.{MatchOption}
 use Rattle.std.proofs.lemmas.Option.{MatchOption-at_none, MatchOption-at_some}
@@ -92,12 +92,6 @@ stood_new l r q m m' ws k f s e ek ew em =
       fits = fits_stored l r q f.fits s;
       mem = em ∙ (λ j. with_slot (ek j) (ew j) (f.mem j)) ∙ (writes l r f.fits).stands i (q ∷ []) s.key ∙ ap (λ x. encode l (with_store (set r.store i x) r)) e;
     }
-
--- or it is later, and stays
-pub stood_old : (l : Limits) (r : Replica) (q : Put Body) (m : List ℕ) → Fitted l r m → Sound l q → shown r.store (key_of q.body) ≡ stand q (shown r.store (key_of q.body)) → Fitted l (with_store (stored q r.store) r) m
-stood_old l r q m f s e =
-    let i = key_of q.body in
-    record { fits = fits_stored l r q f.fits s; mem = f.mem ∙ ap (λ t. encode l (with_store t r)) (sym (set-get_or r.store i []) ∙ ap (set r.store i) e) }
 
 stand_none : (q : Put Body) (s : Slot) → ◌≡◌ {A = Option CodePut} None (code_slot s) → q ∷ [] ≡ stand q s
 unfolding stand code_slot

@@ -127,7 +127,7 @@ fn had_at(replica: &Replica<'_>, i: usize, clock: &Clock) -> bool
     read_head(replica.mem, slot).is_some_and(|head| head.number <= clock.count(head.from))
 }
 
-// What stands in slot `i` of what waits stands in slot `to` of it.
+// What stands in the `i`-th slot of what waits stands in the one at `to` too.
 fn move_slot(replica: &mut Replica<'_>, i: usize, to: usize)
     requires { (i ≤ replica.old.at.layout.waiting.count) × (to ≤ replica.old.at.layout.waiting.count) }
     ensures same { Same replica.old replica.new }

@@ -1,12 +1,8 @@
-use Rattle.std.proofs.Common.{◌+◌, sym, refl, ap, ◌∙◌, arith}
+use Rattle.std.proofs.Common.{◌+◌, refl, ap, ◌∙◌, arith}
 use Rattle.puts.specs.Words.{slot_words}
 use Rattle.logs.proofs.Changes.{laid_still}
 use Rattle.delivery.proofs.Queue.{emptied_none, emptied_more, emptied_all}
-use Rattle.delivery.proofs.Settled.{clean_empty}
 use Rattle.delivery.proofs.clean.Goals as goal
-
-pub returns-then-count-eq0-clause-does : goal.returns-then-count-eq0-clause-does
-returns-then-count-eq0-clause-does c = λ l r s. record { fitted = clean_empty l r _ (sym (c.waiting-count.ensures.count l r s) ∙ c.if-count-eq0.true) s.fitted; laid = s.laid }
 
 pub loop-j-init : goal.loop-j-init
 loop-j-init c = (record { mem = refl; at = refl }, omega (arith, c.waiting-count.ensures.bound, ap (λ x. x.layout.waiting.count) c.keep-stay.ensures.same.at), λ l r f w n g. emptied_none l r f _ _ _ n g)

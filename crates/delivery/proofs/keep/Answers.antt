@@ -57,14 +57,3 @@ loop-i-preserved c =
                 moved_goes l r v _ i c.loop-i.stay h b g,
           ))
     ]
-
-pub returns : goal.returns
-returns c =
-    record {
-      same = c.loop-i.invariant.0;
-      bound = omega arith;
-      moved = λ l r s n k.
-          let z : c.loop-i.i ≡ c.args.count = omega arith in
-          let P : ℕ → Type 0 = λ x. Moved l r c.loop-i.replica.mem.now x c.loop-i.stay in
-          subst P z (c.loop-i.invariant.3 l r s n k);
-    }

@@ -7,9 +7,6 @@ use Rattle.puts.proofs.Padded.{number_code}
 use Rattle.delivery.proofs.Takes.{from_code}
 use Rattle.delivery.proofs.nothing_new.Goals as goal
 
-pub returns-then-had : goal.returns-then-had
-returns-then-had c = λ l r q t s e. c.if-had.true ∙ sym (ap (λ b. b || is_in q r.delivery.waiting) (sym (c.had.ensures l r q t.fitted s e) ∙ c.if-had.true))
-
 pub returns-else-had : goal.returns-else-had
 returns-else-had c =
     λ l r q t s e.

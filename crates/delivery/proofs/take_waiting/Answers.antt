@@ -1,4 +1,4 @@
-use Rattle.std.proofs.Common.{◌≡◌, ℕ, suc, ◌+◌, ◌-◌, get_or, sym, refl, ap, ◌∙◌, subst, arith}
+use Rattle.std.proofs.Common.{◌≡◌, ℕ, suc, ◌+◌, ◌-◌, get_or, sym, ap, ◌∙◌, subst, arith}
 use Rattle.model.specs.Put.{Put, Body}
 use Rattle.model.specs.Delivery.{Run, settle, take_one}
 use Rattle.model.specs.Replica.{moved}
@@ -8,14 +8,6 @@ use Rattle.logs.proofs.Changes.{stands, still}
 use Rattle.delivery.specs.Steps.{Unswept}
 use Rattle.delivery.proofs.Settled.{no_first, a_first, first_of_all, taken_unswept, settle_takes, settle_ends, settle_none}
 use Rattle.delivery.proofs.take_waiting.Goals as goal
-
-pub loop-init : goal.loop-init
-loop-init c = (
-  record { mem = refl; at = refl },
-  λ l m s u.
-      let z : c.args.replica.now.at.layout.waiting.count - 0 ≡ l.waiting_most = omega (arith, u.held.laid.waiting.1) in
-      record { run = m; unswept = u; same = ap (λ n. settle n m) z },
-)
 
 pub returns-in_default-clause-does : goal.returns-in_default-clause-does
 returns-in_default-clause-does c =
