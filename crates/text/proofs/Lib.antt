@@ -1,2 +1,1 @@
-mod Prints
-mod Puts
+pub mod Puts

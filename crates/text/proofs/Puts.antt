@@ -1,22 +1,23 @@
--- The text of several puts, by its first.
-use Rattle.std.proofs.Common.{◌≡◌, ◌-◌, ◌<◌, List, [], ◌∷◌, ◌++◌, length, get_or, take, drop, codes, sym, refl, ap, ◌∙◌, arith}
-use Rattle.std.proofs.lemmas.List.{take_all}
-use Rattle.text.specs.Printed.{put_text, more_text, puts_text}
-use Rattle.text.specs.declared.event.Put.{Put}
-use Rattle.text.proofs.Prints.{Pieces}
+-- The text of several puts, by its last.
+use Rattle.std.proofs.Common.{◌≡◌, ℕ, ◌+◌, ◌<◌, List, [], ◌∷◌, ◌++◌, length, get_or, take, codes, sym, refl, ap, ◌∙◌, append_assoc, add-one, append-nil}
+use Rattle.std.proofs.lemmas.Grind.{flat_map-append}
+use Rattle.std.proofs.lemmas.List.{take_more}
+use Rattle.text.specs.Event.{Put}
+use Rattle.text.specs.Printed.{put_text, puts_text}
 
-pub more_pieces : Pieces (λ p. codes " ; " ++ put_text p) more_text
-unfolding more_text
-more_pieces = record { none = refl; more = λ p ps. refl }
+-- the text that stands before each put but the first, and that put
+abbrev next : Put → List ℕ
+next p = codes " ; " ++ put_text p
 
-pub puts_none : (ps : List Put) → length ps ≡ 0 → puts_text ps ≡ []
-unfolding puts_text
-puts_none [] h = refl
-puts_none (p ∷ ps) h = absurd (omega arith)
+front : (ps : List Put) (p : Put) (i : ℕ) → take (i + 1) (p ∷ ps) ≡ p ∷ take i ps
+front ps p i = rw (add-one i) refl
 
-pub puts_some : (ps : List Put) (p : Put) → 0 < length ps → p ≡ get_or ps 0 p → puts_text ps ≡ codes " " ++ (put_text p ++ more_text (take (length ps - 1) (drop 1 ps)))
-unfolding puts_text
-puts_some [] p h e = absurd (omega arith)
-puts_some (q ∷ ps) p h e =
-    let all : take (length (q ∷ ps) - 1) ps ≡ ps = take_all (length (q ∷ ps) - 1) ps (omega arith) in
-    ap (λ t. codes " " ++ (put_text t ++ more_text ps)) (sym e) ∙ ap (λ t. codes " " ++ (put_text p ++ more_text t)) (sym all)
+last : (ps : List Put) (p q : Put) → puts_text (p ∷ ps) ++ next q ≡ puts_text (p ∷ (ps ++ q ∷ []))
+last ps p q = simp (append_assoc, flat_map-append, append-nil) refl
+
+-- a put more behind the first ones
+pub puts_more : (all rest : List Put) (p q : Put) (i : ℕ) → all ≡ p ∷ rest → i < length rest → q ≡ get_or rest i q → puts_text (take (i + 1) all) ++ (codes " ; " ++ put_text q) ≡ puts_text (take (i + 1 + 1) all)
+puts_more all rest p q i e h k =
+    ap (λ ps. puts_text (take (i + 1) ps) ++ next q) e ∙ ap (λ ps. puts_text ps ++ next q) (front rest p i) ∙ last (take i rest) p q
+    ∙ ap (λ x. puts_text (p ∷ (take i rest ++ x ∷ []))) k ∙ ap (λ ps. puts_text (p ∷ ps)) (sym (take_more rest i q h))
+    ∙ sym (ap (λ ps. puts_text (take (i + 1 + 1) ps)) e ∙ ap puts_text (front rest p (i + 1)))

@@ -1,24 +1,19 @@
 -- The text of puts and answers. Definitions only.
-use Rattle.std.specs.Prelude.{ℕ, List, [], ◌∷◌, ◌++◌, vec_items, codes, decimal}
+use Rattle.std.specs.Prelude.{ℕ, List, [], ◌∷◌, ◌++◌, Some, None, vec_items, codes, decimal}
+use Rattle.std.specs.List.{join_by}
 use Rattle.words.specs.Text.{counts_text, value_text}
-use Rattle.text.specs.declared.event.Answer.{Answer}
-use Rattle.text.specs.declared.event.Answer.TheVariants.{Refused, Puts, Nothing, Value, Clock}
-use Rattle.text.specs.declared.event.Event.{Event}
-use Rattle.text.specs.declared.event.Event.TheVariants.{Put as Put', Get, Came, Has, Tell}
-use Rattle.text.specs.declared.event.Put.{Put}
+use Rattle.puts.specs.declared.event.Answer.TheVariants.{Refused, Puts, Value, Clock}
+use Rattle.puts.specs.declared.event.Event.TheVariants.{Put as Put', Get, Came, Has, Tell}
+use Rattle.text.specs.Event.{Put, Event, Answer}
 
 -- a put: key, value, replica, and the counts of what it had seen
 abbrev pub put_text : Put → List ℕ
 put_text p = decimal p.key ++ (codes " " ++ (value_text (vec_items p.value) ++ (codes " " ++ (decimal p.from ++ counts_text (vec_items p.seen)))))
 
--- puts, each behind ` ; `, the first behind a space
-unfoldable pub more_text : List Put → List ℕ
-more_text [] = []
-more_text (p ∷ ps) = codes " ; " ++ (put_text p ++ more_text ps)
-
-unfoldable pub puts_text : List Put → List ℕ
+-- puts behind a space, with ` ; ` between two
+abbrev pub puts_text : List Put → List ℕ
 puts_text [] = []
-puts_text (p ∷ ps) = codes " " ++ (put_text p ++ more_text ps)
+puts_text (p ∷ ps) = codes " " ++ join_by put_text (codes " ; ") (p ∷ ps)
 
 -- what happens at a replica
 abbrev pub event_words : Event → List ℕ
@@ -34,8 +29,8 @@ event_text i e = decimal i ++ (codes " " ++ event_words e)
 
 -- what stands behind ` -> `
 abbrev pub answer_text : Answer → List ℕ
-answer_text (Refused n k) = codes "refused " ++ (decimal n ++ (codes " " ++ decimal k))
+answer_text (Refused r) = codes "refused " ++ (decimal r.number ++ (codes " " ++ decimal r.place))
 answer_text (Puts ps) = codes "puts" ++ puts_text (vec_items ps)
-answer_text Nothing = codes "none"
-answer_text (Value p) = codes "value " ++ put_text p
+answer_text (Value None) = codes "none"
+answer_text (Value (Some p)) = codes "value " ++ put_text p
 answer_text (Clock c) = codes "clock" ++ counts_text (vec_items c)

@@ -1,130 +1,130 @@
-// Events and answers to text.
+// Puts, events and answers as text.
 ghost use Rattle.text.specs.Printed.{answer_text, event_text, put_text, puts_text};
 ghost use Rattle.words.specs.Text.{counts_text, value_text};
-ghost use Rattle.std.specs.Prelude.{◌≡◌, ◌<◌, [], ◌∷◌, ◌++◌, is_ok, string_bytes, decimal, OnOk};
-ghost use Rattle.std.specs.Char.{digit_char};
+ghost use Rattle.std.specs.Prelude.{Some};
 
 use crate::event::{Answer, Event, Put};
-use std::fmt::Write;
-use std::io;
+use std::fmt;
 
 // A space and a number, for each number.
-pub fn push_counts(out: &mut String, counts: &[u64]) -> io::Result<()>
-    ensures { OnOk result (string_bytes out.new ≡ string_bytes out.old ++ counts_text counts.now) }
-{
-    for count in counts {
-        write!(out, " {count}")?;
-    }
-    Ok(())
-}
-
-fn push_digit(out: &mut String, d: u8) -> io::Result<()>
-    requires { d < 16 }
-    ensures { OnOk result (string_bytes out.new ≡ string_bytes out.old ++ digit_char d ∷ []) }
-{
-    let c = if d < 10 { b'0' + d } else { b'a' + (d - 10) };
-    out.push(c as char)?;
-    Ok(())
-}
+#[derive(Clone, Copy)]
+pub struct CountsText<'a>(pub &'a [u64]);
 
 // A value: two small hexadecimal digits for each byte, or `-` for no bytes.
-pub fn push_value(out: &mut String, value: &[u8]) -> io::Result<()>
-    ensures { OnOk result (string_bytes out.new ≡ string_bytes out.old ++ value_text value.now) }
-{
-    if value.is_empty() {
-        out.push_str("-")?;
-        return Ok(());
-    }
-    for byte in value {
-        push_digit(out, *byte / 16)?;
-        push_digit(out, *byte % 16)?;
-    }
-    Ok(())
-}
+#[derive(Clone, Copy)]
+pub struct ValueText<'a>(pub &'a [u8]);
 
 // A put: its key, its value, its replica, and the clock that its replica had before.
-pub fn push_put(out: &mut String, put: &Put) -> io::Result<()>
-    ensures { OnOk result (string_bytes out.new ≡ string_bytes out.old ++ put_text put.now) }
-{
-    let key = put.key;
-    let from = put.from;
-    write!(out, "{key} ")?;
-    push_value(out, put.value.as_slice())?;
-    write!(out, " {from}")?;
-    push_counts(out, put.seen.as_slice())?;
-    Ok(())
-}
+#[derive(Clone, Copy)]
+pub struct PutText<'a>(pub &'a Put);
 
-// Puts, joined by ` ; `.
-fn push_puts(out: &mut String, puts: &[Put]) -> io::Result<()>
-    ensures { OnOk result (string_bytes out.new ≡ string_bytes out.old ++ puts_text puts.now) }
-{
-    if puts.is_empty() {
-        return Ok(());
-    }
-    out.push_str(" ")?;
-    push_put(out, &puts[0])?;
-    let more = &puts[1..];
-    for put in more {
-        out.push_str(" ; ")?;
-        push_put(out, put)?;
-    }
-    Ok(())
-}
+// Puts, joined by ` ; `, behind a space.
+#[derive(Clone, Copy)]
+struct PutsText<'a>(&'a [Put]);
 
 // An event at a replica, as a line of the script.
-pub fn push_event(out: &mut String, replica: u64, event: &Event) -> io::Result<()>
-    ensures { OnOk result (string_bytes out.new ≡ string_bytes out.old ++ event_text replica event.now) }
-{
-    match event {
-        Event::Put { key, value } => {
-            write!(out, "{replica} put {key} ")?;
-            push_value(out, value.as_slice())?;
-        }
-        Event::Get { key } => {
-            write!(out, "{replica} get {key}")?;
-        }
-        Event::Came { put } => {
-            write!(out, "{replica} came ")?;
-            push_put(out, put)?;
-        }
-        Event::Has {
-            replica: from,
-            clock,
-        } => {
-            write!(out, "{replica} has {from}")?;
-            push_counts(out, clock.as_slice())?;
-        }
-        Event::Tell => {
-            write!(out, "{replica} tell")?;
-        }
-    }
-    Ok(())
+#[derive(Clone, Copy)]
+pub struct EventText<'a> {
+    pub replica: u64,
+    pub event: &'a Event,
 }
 
 // An answer, as it stands behind ` -> `.
-pub fn push_answer(out: &mut String, answer: &Answer) -> io::Result<()>
-    ensures { OnOk result (string_bytes out.new ≡ string_bytes out.old ++ answer_text answer.now) }
-{
-    match answer {
-        Answer::Refused { number, place } => {
-            write!(out, "refused {number} {place}")?;
+#[derive(Clone, Copy)]
+pub struct AnswerText<'a>(pub &'a Answer);
+
+impl fmt::Display for CountsText<'_> {
+    ghost output = { λ c. Some (counts_text c.0.now) };
+
+    fn fmt<W: fmt::Write>(&self, f: &mut fmt::Formatter<W>) -> fmt::Result {
+        for count in self.0 {
+            write!(f, " {count}")?;
         }
-        Answer::Puts { puts } => {
-            out.push_str("puts")?;
-            push_puts(out, puts.as_slice())?;
+        Ok(())
+    }
+}
+
+impl fmt::Display for ValueText<'_> {
+    ghost output = { λ v. Some (value_text v.0.now) };
+
+    #[tactic(auto, using(words::proofs::Values::value_dash, words::proofs::Values::value_hex))]
+    fn fmt<W: fmt::Write>(&self, f: &mut fmt::Formatter<W>) -> fmt::Result {
+        if self.0.is_empty() {
+            return f.write_str("-");
         }
-        Answer::Nothing => {
-            out.push_str("none")?;
+        for &byte in self.0 {
+            write!(f, "{byte:02x}")?;
         }
-        Answer::Value { put } => {
-            out.push_str("value ")?;
-            push_put(out, put)?;
+        Ok(())
+    }
+}
+
+impl fmt::Display for PutText<'_> {
+    ghost output = { λ p. Some (put_text p.0.now) };
+
+    fn fmt<W: fmt::Write>(&self, f: &mut fmt::Formatter<W>) -> fmt::Result {
+        let Put {
+            key,
+            value,
+            from,
+            seen,
+        } = self.0;
+        let value = ValueText(value.as_slice());
+        let seen = CountsText(seen.as_slice());
+        write!(f, "{key} {value} {from}{seen}")
+    }
+}
+
+impl fmt::Display for PutsText<'_> {
+    ghost output = { λ p. Some (puts_text p.0.now) };
+
+    fn fmt<W: fmt::Write>(&self, f: &mut fmt::Formatter<W>) -> fmt::Result {
+        if let Some((first, rest)) = self.0.split_first() {
+            write!(f, " {}", PutText(first))?;
+            for put in rest {
+                write!(f, " ; {}", PutText(put))?;
+            }
         }
-        Answer::Clock { counts } => {
-            out.push_str("clock")?;
-            push_counts(out, counts.as_slice())?;
+        Ok(())
+    }
+}
+
+impl fmt::Display for EventText<'_> {
+    ghost output = { λ e. Some (event_text e.replica e.event.now) };
+
+    fn fmt<W: fmt::Write>(&self, f: &mut fmt::Formatter<W>) -> fmt::Result {
+        let replica = self.replica;
+        match self.event {
+            Event::Put { key, value } => {
+                let value = ValueText(value.as_slice());
+                write!(f, "{replica} put {key} {value}")
+            }
+            Event::Get { key } => write!(f, "{replica} get {key}"),
+            Event::Came { put } => write!(f, "{replica} came {}", PutText(put)),
+            Event::Has {
+                replica: from,
+                clock,
+            } => {
+                let counts = CountsText(clock.as_slice());
+                write!(f, "{replica} has {from}{counts}")
+            }
+            Event::Tell => write!(f, "{replica} tell"),
         }
     }
-    Ok(())
+}
+
+impl fmt::Display for AnswerText<'_> {
+    ghost output = { λ a. Some (answer_text a.0.now) };
+
+    fn fmt<W: fmt::Write>(&self, f: &mut fmt::Formatter<W>) -> fmt::Result {
+        match self.0 {
+            Answer::Refused { refusal } => {
+                write!(f, "refused {} {}", refusal.number, refusal.place)
+            }
+            Answer::Puts { puts } => write!(f, "puts{}", PutsText(puts.as_slice())),
+            Answer::Value { put: None } => f.write_str("none"),
+            Answer::Value { put: Some(put) } => write!(f, "value {}", PutText(put)),
+            Answer::Clock { clock } => write!(f, "clock{}", CountsText(clock.as_slice())),
+        }
+    }
 }

@@ -1,7 +1,7 @@
 -- The text of numbers and values, and what it is to read one. Definitions only.
 use Rattle.std.specs.Prelude.{◌≡◌, ℕ, ◌/◌, ◌%◌, ◌^◌, ◌<◌, List, [], ◌∷◌, ◌++◌, length, Some, None, decimal, Option, ◌≢◌}
 use Rattle.std.specs.Char.{digit_char}
-use Rattle.std.specs.List.{AllByRecursion}
+use Rattle.std.specs.List.{AllByRecursion, flat_map}
 
 -- w is read as r: it is the text of what was read, and where nothing was read it is the text of nothing that can be
 abbrev pub Reads : {A B : Type 0} → (A → B) → (A → Type 0) → B → Option A → Type 0
@@ -25,22 +25,20 @@ Bytes bs = AllByRecursion Byte bs
 abbrev pub digits : ℕ → ℕ × ℕ
 digits b = (digit_char (b / 16), digit_char (b % 16))
 
-unfoldable pub hex : List ℕ → List ℕ
-hex [] = []
-hex (b ∷ bs) = (digits b).0 ∷ (digits b).1 ∷ hex bs
+abbrev pub hex : List ℕ → List ℕ
+hex bs = flat_map (λ b. (digits b).0 ∷ (digits b).1 ∷ []) bs
 
 -- a value as text: its digits, or `-` where it has no bytes
-unfoldable pub value_text : List ℕ → List ℕ
+abbrev pub value_text : List ℕ → List ℕ
 value_text [] = 45 ∷ []
 value_text (b ∷ bs) = hex (b ∷ bs)
 
 -- a space and a number, for each of some numbers
-unfoldable pub counts_text : List ℕ → List ℕ
-counts_text [] = []
-counts_text (n ∷ ns) = 32 ∷ (decimal n ++ counts_text ns)
+abbrev pub counts_text : List ℕ → List ℕ
+counts_text ns = flat_map (λ n. 32 ∷ decimal n) ns
 
 -- numbers with one space between two
-unfoldable pub numbers_text : List ℕ → List ℕ
+abbrev pub numbers_text : List ℕ → List ℕ
 numbers_text [] = []
 numbers_text (n ∷ ns) = decimal n ++ counts_text ns
 

@@ -26,22 +26,16 @@ pub fn numbers(heap: Global, text: &str) -> Result<Option<Vec<u64>>, AllocError>
     ensures { IfOk result (λ o. Reads numbers_text Words text.now (option_map vec_items o)) }
 {
     let mut all = Vec::new(heap);
-    let mut rest = text;
-    while let Some((word, more)) = rest.split_once(' ') {
+    for word in text.split(' ') {
         let Some(n) = number(word) else {
             return Ok(None);
         };
         all.push(n)?;
-        rest = more;
     }
-    let Some(n) = number(rest) else {
-        return Ok(None);
-    };
-    all.push(n)?;
     Ok(Some(all))
 }
 
-// What a small hexadecimal digit stands for.
+// What a small hexadecimal digit stands for. `char::to_digit` would take capitals too.
 fn digit(byte: u8) -> Option<u8>
     ensures { Reads digit_char Nibble byte result }
 {
@@ -56,12 +50,8 @@ fn digit(byte: u8) -> Option<u8>
 fn pair(high: u8, low: u8) -> Option<u8>
     ensures { Reads digits Byte (high, low) result }
 {
-    let Some(high) = digit(high) else {
-        return None;
-    };
-    let Some(low) = digit(low) else {
-        return None;
-    };
+    let high = digit(high)?;
+    let low = digit(low)?;
     Some(high * 16 + low)
 }
 
@@ -69,12 +59,12 @@ fn pair(high: u8, low: u8) -> Option<u8>
 fn hex_bytes(heap: Global, digits: &[u8]) -> Result<Option<Vec<u8>>, AllocError>
     ensures { IfOk result (λ o. Reads hex Bytes digits.now (option_map vec_items o)) }
 {
-    let mut bytes = Vec::new(heap);
     if digits.len() % 2 != 0 {
         return Ok(None);
     }
-    for i in 0..digits.len() / 2 {
-        let Some(byte) = pair(digits[2 * i], digits[2 * i + 1]) else {
+    let mut bytes = Vec::new(heap);
+    for two in digits.chunks_exact(2) {
+        let Some(byte) = pair(two[0], two[1]) else {
             return Ok(None);
         };
         bytes.push(byte)?;

@@ -1,28 +1,22 @@
-use Rattle.std.proofs.Common.{◌*◌, ◌≤◌, length, vec_items, sym, refl, ap, ◌∙◌, arith}
-use Rattle.std.proofs.ByRecursion.{All-push}
-use Rattle.std.proofs.lemmas.List.{take_all}
-use Rattle.words.specs.Text.{Byte, hex}
-use Rattle.words.proofs.Values.{length_hex, hex_more, hex_pair}
+use Rattle.std.proofs.Common.{rules, ◌≡◌, ◌%◌, ◌<◌, length, vec_items, ap, ◌∙◌, arith}
+use Rattle.std.specs.Slice.Iter.{chunks_exact_rest}
+use Rattle.words.proofs.Values.{all_read, length_hex, next_pair, two_before}
 use Rattle.words.proofs.hex_bytes.Goals as goal
 
 pub returns-then-digits-ne0 : goal.returns-then-digits-ne0
 returns-then-digits-ne0 c = λ bs f e. c.if-digits-ne0.true (omega (arith, ap length e ∙ length_hex bs))
 
-pub loop-i-init : goal.loop-i-init
-unfolding hex
-loop-i-init c = rw c.new-bytes.ensures.items (refl, tt)
-
 pub returns-in_default : goal.returns-in_default
-returns-in_default c = λ bs f e. hex_pair c.args.digits.now bs c.loop-i.i (omega arith) f e c.in_default.ensures
-
-pub loop-i-preserved : goal.loop-i-preserved
-loop-i-preserved c =
-    rw c.in_ok-push.ensures.items (
-      hex_more c.args.digits.now (vec_items c.loop-i.bytes) c.loop-i.i c.in-Some.byte (omega arith) c.loop-i.invariant.0 c.in-Some.ensures.1,
-      All-push Byte (vec_items c.loop-i.bytes) c.in-Some.byte c.loop-i.invariant.1 c.in-Some.ensures.0,
-    )
+returns-in_default c = λ bs f e.
+    let steps = c.in-Some.ensures.steps in
+    let ms = vec_items c.loop-two.bytes in
+    let next = chunks_exact_rest c.next.new.self in
+    let read = two_before ms c.in-Some.two.now _ next _ c.loop-two.invariant.read steps.1.0 (steps.1.1 ∙ c.loop-two.invariant.size) in
+    let byte = next_pair ms bs next _ _ f (read ∙ e) in
+    c.in_default.ensures byte.0 byte.1 byte.2
 
 pub returns : goal.returns
 returns c =
-    let all : length c.args.digits.now ≤ 2 * c.loop-i.i = omega arith in
-    (c.loop-i.invariant.1, sym (c.loop-i.invariant.0 ∙ take_all (2 * c.loop-i.i) c.args.digits.now all))
+    let even : length c.args.digits.now % 2 ≡ 0 = search rules in
+    let few : length (chunks_exact_rest c.loop-two.two-iterator) < 2 = omega (arith, c.in-None.ensures.steps.1.0, c.loop-two.invariant.size) in
+    (c.loop-two.invariant.bytes, all_read (vec_items c.loop-two.bytes) _ _ c.loop-two.invariant.read even few)

@@ -2,13 +2,12 @@ use Rattle.std.proofs.Common.{vec_items, sym, ◌∙◌, subst, eq-eqb, eqb-true
 use borrow.Author.Tests.{clash}
 use Rattle.std.specs.Option.{option_map}
 use Rattle.std.proofs.lemmas.Slice.Eq.{bytes_eq-Decides}
-use Rattle.words.specs.Text.{Bytes, Reads, hex, value_text}
+use Rattle.words.specs.Text.{Bytes, Reads, hex}
 use Rattle.words.proofs.Values.{value_some, value_reads}
 use Rattle.std.proofs.lemmas.Result.{IfOk-weaker}
 use Rattle.words.proofs.value.Goals as goal
 
 pub returns-then-eq : goal.returns-then-eq
-unfolding value_text
 returns-then-eq c = rw c.new.ensures.items (tt, (bytes_eq-Decides _ _).0 (sym c.eq.ensures ∙ c.if-eq.true))
 
 pub returns-then-is_empty : goal.returns-then-is_empty
