@@ -3,7 +3,7 @@ use Rattle.std.proofs.Common.{◌≡◌, ℕ, ◌<◌, List, [], ◌∷◌, ◌+
 use Rattle.std.specs.Option.{option_map}
 use Rattle.std.specs.List.{AllByRecursion}
 use Rattle.text.specs.Printed.{put_text}
-use Rattle.text.specs.declared.event.Put.{Put}
+use Rattle.text.specs.Event.{Put}
 use Rattle.words.specs.Text.{Bytes, Reads, Word, Words, numbers_text, value_text}
 use Rattle.words.proofs.Spaces.{Cut, NoSpace, cut_parts, decimal_no_space, has_space, value_no_space}
 use Rattle.script.specs.Events.{CanPut}
@@ -53,7 +53,7 @@ put_rest : Put → List ℕ
 put_rest p = value_text (vec_items p.value) ++ 32 ∷ numbers_text (p.from ∷ vec_items p.seen)
 
 put_is : (p : Put) → put_text p ≡ decimal p.key ++ 32 ∷ put_rest p
-unfolding put_rest numbers_text
+unfolding put_rest
 put_is p = refl
 
 module _ (w : List ℕ) where

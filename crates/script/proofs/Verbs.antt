@@ -7,9 +7,8 @@ use Rattle.std.proofs.lemmas.Str.Parse.{digit_at}
 use Rattle.std.specs.declared.alloc.Global.{Global}
 use Rattle.std.specs.Str.{bytes_eq}
 use Rattle.text.specs.Printed.{event_words, put_text}
-use Rattle.text.specs.declared.event.Event.{Event}
-use Rattle.text.specs.declared.event.Event.TheVariants.{Put as Put', Get, Came, Has, Tell}
-use Rattle.text.specs.declared.event.Put.{Put}
+use Rattle.text.specs.Event.{Event, Put}
+use Rattle.puts.specs.declared.event.Event.TheVariants.{Put as Put', Get, Came, Has, Tell}
 use Rattle.words.specs.Text.{Bytes, Word, numbers_text, value_text}
 use Rattle.words.proofs.Decimals.{own}
 use Rattle.words.proofs.Spaces.{Cut, NoSpace, cut_parts, decimal_no_space, has_space}
@@ -19,7 +18,7 @@ use Rattle.script.specs.declared.Command.{Command}
 use Rattle.script.specs.declared.Command.TheVariants.{Open, At, Round}
 use Rattle.script.specs.declared.Deed.{Deed}
 use Rattle.script.specs.declared.Deed.TheVariants.{Event as Event', Bytes as Bytes', From, Asks}
-use Rattle.script.specs.declared.Limits.{Limits}
+use Rattle.memory.specs.declared.Limits.{Limits}
 
 -- words that are written out
 unfoldable pub spaceless : List ℕ → Bool
@@ -51,7 +50,7 @@ module _ (text verb rest : List ℕ) (cut : Cut text verb rest) where
       → ((p : Put) → CanPut p → verb ≡ codes "came" → rest ≡ put_text p → ⊥)
       → ((j : ℕ) (c : Vec ℕ Global) → CanEvent (Has j c) → verb ≡ codes "has" → rest ≡ numbers_text (j ∷ vec_items c) → ⊥)
       → (x : Event) → CanEvent x → text ≡ event_words x → ⊥
-  unfolding spaceless numbers_text
+  unfolding spaceless
   event_none put get came has (Put' k v) can e = let p = cut_parts text verb rest (codes "put") (keyed (k, v)) cut (word_of (codes "put") refl) e in put k v can p.0 p.1
   event_none put get came has (Get k) can e = let p = cut_parts text verb rest (codes "get") (decimal k) cut (word_of (codes "get") refl) e in get k can p.0 p.1
   event_none put get came has (Came q) can e = let p = cut_parts text verb rest (codes "came") (put_text q) cut (word_of (codes "came") refl) e in came q can p.0 p.1
@@ -60,7 +59,6 @@ module _ (text verb rest : List ℕ) (cut : Cut text verb rest) where
 
 -- without a space there is but one event
 pub event_uncut : (text : List ℕ) → NoSpace text → (text ≡ codes "tell" → ⊥) → (x : Event) → CanEvent x → text ≡ event_words x → ⊥
-unfolding numbers_text
 event_uncut text s other (Put' k v) can e = has_space (codes "put") (keyed (k, v)) text s e
 event_uncut text s other (Get k) can e = has_space (codes "get") (decimal k) text s e
 event_uncut text s other (Came p) can e = has_space (codes "came") (put_text p) text s e

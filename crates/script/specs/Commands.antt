@@ -1,5 +1,5 @@
 -- The commands of a script and their text. Definitions only.
-use Rattle.std.specs.Prelude.{ℕ, Bool, ◌&&◌, List, [], ◌∷◌, ◌++◌, vec_items, codes, decimal, nat_le}
+use Rattle.std.specs.Prelude.{ℕ, List, [], ◌∷◌, ◌++◌, vec_items, codes, decimal}
 use Rattle.text.specs.Printed.{event_words}
 use Rattle.words.specs.Text.{Bytes, Word, numbers_text, value_text}
 use Rattle.script.specs.Events.{CanEvent, CanTwo, two_text}
@@ -7,14 +7,7 @@ use Rattle.script.specs.declared.Command.{Command}
 use Rattle.script.specs.declared.Command.TheVariants.{Open, At, Round}
 use Rattle.script.specs.declared.Deed.{Deed}
 use Rattle.script.specs.declared.Deed.TheVariants.{Event, Bytes as Bytes', From, Asks}
-use Rattle.script.specs.declared.Limits.{Limits}
-
--- the limits that a cluster may be opened with
-abbrev pub between : ℕ → ℕ → ℕ → Bool
-between low n high = nat_le low n && nat_le n high
-
-abbrev pub good_limits : Limits → Bool
-good_limits l = (between 1 l.replicas 16 && between 1 l.keys 4096) && (between 1 l.log 1024 && between 0 l.waiting 1024)
+use Rattle.memory.specs.declared.Limits.{Limits}
 
 -- limits as text; any that can be written, in range or not
 abbrev pub limits_text : Limits → List ℕ

@@ -2,9 +2,8 @@
 use Rattle.std.specs.Prelude.{ℕ, List, ◌++◌, vec_items, codes, decimal, Vec}
 use Rattle.std.specs.declared.alloc.Global.{Global}
 use Rattle.std.specs.List.{AllByRecursion}
-use Rattle.text.specs.declared.event.Event.{Event}
-use Rattle.text.specs.declared.event.Event.TheVariants.{Put as Put', Get, Came, Has, Tell}
-use Rattle.text.specs.declared.event.Put.{Put}
+use Rattle.puts.specs.declared.event.Event.TheVariants.{Put as Put', Get, Came, Has, Tell}
+use Rattle.text.specs.Event.{Put, Event}
 use Rattle.words.specs.Text.{Bytes, Word, value_text}
 
 -- a key and a value

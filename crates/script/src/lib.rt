@@ -1,37 +1,17 @@
 // A line of a script to a command.
 #![tactic(auto)]
 
-ghost use Rattle.script.specs.Commands.{CanCommand, CanDeed, CanLimits, command_text, deed_words, good_limits, limits_text};
-ghost use Rattle.std.specs.Prelude.{◌≡◌, IfOk};
+ghost use Rattle.script.specs.Commands.{CanCommand, CanDeed, CanLimits, command_text, deed_words, limits_text};
+ghost use Rattle.std.specs.Prelude.{IfOk};
 ghost use Rattle.words.specs.Text.{Reads};
 
 mod read;
 
+use memory::Limits;
 use read::{read_event, read_two};
 use std::alloc::{AllocError, Global};
 use text::event::Event;
 use words::{number, numbers, value};
-
-// What a cluster is opened with.
-#[derive(Clone, Copy)]
-pub struct Limits {
-    pub replicas: u64,
-    pub keys: u64,
-    pub log: u64,
-    pub waiting: u64,
-}
-
-impl Limits {
-    // 1 to 16 replicas, 1 to 4,096 keys, logs of 1 to 1,024 puts, at most 1,024 that wait.
-    pub fn in_range(&self) -> bool
-        ensures { result ≡ good_limits self.now }
-    {
-        matches!(self.replicas, 1..=16)
-            && matches!(self.keys, 1..=4096)
-            && matches!(self.log, 1..=1024)
-            && self.waiting <= 1024
-    }
-}
 
 // What is done at a replica: an event, given whole, by its bytes, or by the put that comes; or it asks another.
 #[derive(Drop)]
@@ -81,14 +61,15 @@ fn read_limits(heap: Global, text: &str) -> Result<Option<Limits>, AllocError>
     let Some(all) = numbers(heap, text)? else {
         return Ok(None);
     };
-    if all.len() != 4 {
+    let Ok(four) = <[u64; 4]>::try_from(all.as_slice()) else {
         return Ok(None);
-    }
+    };
+    let [replicas, keys, log, waiting] = four;
     Ok(Some(Limits {
-        replicas: all[0],
-        keys: all[1],
-        log: all[2],
-        waiting: all[3],
+        replicas: replicas as usize,
+        keys: keys as usize,
+        log: log as usize,
+        waiting: waiting as usize,
     }))
 }
 
@@ -102,23 +83,20 @@ fn read_deed(heap: Global, text: &str) -> Result<Option<Deed>, AllocError>
     let Some((verb, rest)) = text.split_once(' ') else {
         return Ok(None);
     };
-    if verb == "bytes" {
-        let Some(bytes) = value(heap, rest)? else {
-            return Ok(None);
-        };
-        return Ok(Some(Deed::Bytes { bytes }));
+    match verb {
+        "bytes" => {
+            let Some(bytes) = value(heap, rest)? else {
+                return Ok(None);
+            };
+            Ok(Some(Deed::Bytes { bytes }))
+        }
+        "from" => {
+            let Some((maker, number)) = read_two(rest) else {
+                return Ok(None);
+            };
+            Ok(Some(Deed::From { maker, number }))
+        }
+        "asks" => Ok(number(rest).map(|asked| Deed::Asks { asked })),
+        _ => Ok(None),
     }
-    if verb == "from" {
-        let Some((maker, number)) = read_two(rest) else {
-            return Ok(None);
-        };
-        return Ok(Some(Deed::From { maker, number }));
-    }
-    if verb == "asks" {
-        let Some(asked) = number(rest) else {
-            return Ok(None);
-        };
-        return Ok(Some(Deed::Asks { asked }));
-    }
-    Ok(None)
 }

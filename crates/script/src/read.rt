@@ -18,32 +18,29 @@ pub fn read_event(heap: Global, text: &str) -> Result<Option<Event>, AllocError>
     let Some((verb, rest)) = text.split_once(' ') else {
         return Ok(None);
     };
-    if verb == "put" {
-        let Some((key, value)) = read_keyed(heap, rest)? else {
-            return Ok(None);
-        };
-        return Ok(Some(Event::Put { key, value }));
+    match verb {
+        "put" => {
+            let Some((key, value)) = read_keyed(heap, rest)? else {
+                return Ok(None);
+            };
+            Ok(Some(Event::Put { key, value }))
+        }
+        "get" => Ok(number(rest).map(|key| Event::Get { key })),
+        "came" => {
+            let Some(put) = read_put(heap, rest)? else {
+                return Ok(None);
+            };
+            Ok(Some(Event::Came { put }))
+        }
+        "has" => {
+            let Some(mut clock) = numbers(heap, rest)? else {
+                return Ok(None);
+            };
+            let replica = clock.remove(0);
+            Ok(Some(Event::Has { replica, clock }))
+        }
+        _ => Ok(None),
     }
-    if verb == "get" {
-        let Some(key) = number(rest) else {
-            return Ok(None);
-        };
-        return Ok(Some(Event::Get { key }));
-    }
-    if verb == "came" {
-        let Some(put) = read_put(heap, rest)? else {
-            return Ok(None);
-        };
-        return Ok(Some(Event::Came { put }));
-    }
-    if verb == "has" {
-        let Some(mut clock) = numbers(heap, rest)? else {
-            return Ok(None);
-        };
-        let replica = clock.remove(0);
-        return Ok(Some(Event::Has { replica, clock }));
-    }
-    Ok(None)
 }
 
 // A key and a value.
@@ -66,16 +63,8 @@ fn read_keyed(heap: Global, text: &str) -> Result<Option<(u64, Vec<u8>)>, AllocE
 pub fn read_two(text: &str) -> Option<(u64, u64)>
     ensures { Reads two_text CanTwo text.now result }
 {
-    let Some((first, rest)) = text.split_once(' ') else {
-        return None;
-    };
-    let Some(first) = number(first) else {
-        return None;
-    };
-    let Some(second) = number(rest) else {
-        return None;
-    };
-    Some((first, second))
+    let (first, rest) = text.split_once(' ')?;
+    Some((number(first)?, number(rest)?))
 }
 
 // A put: key, value, replica, and the counts of what it had seen.

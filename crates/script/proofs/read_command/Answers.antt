@@ -1,9 +1,9 @@
-use Rattle.std.proofs.Common.{codes, decimal, sym, ◌∙◌}
+use Rattle.std.proofs.Common.{sym, ◌∙◌}
 use borrow.Author.Tests.{clash}
 use Rattle.words.proofs.Spaces.{cut_at, uncut}
 use Rattle.script.specs.Commands.{CanDeed, CanLimits, deed_words, limits_text}
-use Rattle.script.proofs.Parts.{none_is, one_is}
-use Rattle.script.proofs.Verbs.{command_none, command_uncut, open_is_no_number, verb_text}
+use Rattle.script.proofs.Parts.{none_is}
+use Rattle.script.proofs.Verbs.{command_none, command_uncut, open_is_no_number}
 use Rattle.std.proofs.lemmas.Slice.Eq.{bytes_eq-Decides}
 use Rattle.script.proofs.read_command.Goals as goal
 
@@ -16,11 +16,6 @@ returns-in_default-2 c =
     (λ l can e r. none_is limits_text CanLimits c.in-Some.rest.now c.in_ok-limits.field-0 c.in_default-2.is c.in_ok-limits.ensures l can r)
     (λ i d w can e r. open_is_no_number i w (sym ((bytes_eq-Decides _ _).0 (sym c.eq-2.ensures ∙ c.if-eq-2.true)) ∙ e))
 
-pub returns-then-eq-2 : goal.returns-then-eq-2
-returns-then-eq-2 c =
-    let x = one_is limits_text CanLimits c.in-Some.rest.now c.in_ok-limits.field-0 c.in-Some-2.limits c.in-Some-2.is c.in_ok-limits.ensures in
-    (x.0, verb_text c.args.line.now c.in-Some.first.now c.in-Some.rest.now (codes "open") (limits_text c.in-Some-2.limits) (cut_at c.args.line.now c.in-Some.first c.in-Some.rest c.in-Some.ensures.cases) ((bytes_eq-Decides _ _).0 (sym c.eq-2.ensures ∙ c.if-eq-2.true)) x.1)
-
 pub returns-in_default-number : goal.returns-in_default-number
 returns-in_default-number c =
     command_none c.args.line.now c.in-Some.first.now c.in-Some.rest.now (cut_at c.args.line.now c.in-Some.first c.in-Some.rest c.in-Some.ensures.cases)
@@ -32,10 +27,3 @@ returns-in_default-3 c =
     command_none c.args.line.now c.in-Some.first.now c.in-Some.rest.now (cut_at c.args.line.now c.in-Some.first c.in-Some.rest c.in-Some.ensures.cases)
     (λ l can e r. clash (sym c.if-eq-2.false ∙ c.eq-2.ensures ∙ (bytes_eq-Decides _ _).1 e))
     (λ i d w can e r. none_is deed_words CanDeed c.in-Some.rest.now c.in_ok-deed.field-0 c.in_default-3.is c.in_ok-deed.ensures d can r)
-
-pub returns : goal.returns
-returns c =
-    let x = one_is deed_words CanDeed c.in-Some.rest.now c.in_ok-deed.field-0 c.in-Some-3.deed c.in-Some-3.is c.in_ok-deed.ensures in (
-      (c.in-Some-number.ensures.0, x.0),
-      verb_text c.args.line.now c.in-Some.first.now c.in-Some.rest.now (decimal c.in-Some-number.replica) (deed_words c.in-Some-3.deed) (cut_at c.args.line.now c.in-Some.first c.in-Some.rest c.in-Some.ensures.cases) c.in-Some-number.ensures.1 x.1,
-    )

@@ -1,7 +1,7 @@
-use Rattle.std.proofs.Common.{◌∷◌, vec_items, ap, ◌∙◌}
+use Rattle.std.proofs.Common.{vec_items}
 use Rattle.words.specs.Text.{Bytes, Words, numbers_text, value_text}
 use Rattle.words.proofs.Spaces.{cut_at, uncut}
-use Rattle.script.proofs.Parts.{first_removed, none_read, one_read, put_no_key, put_no_numbers, put_no_value, put_no_value_end, put_read, put_uncut}
+use Rattle.script.proofs.Parts.{none_read, put_no_key, put_no_numbers, put_no_value, put_no_value_end, put_uncut}
 use Rattle.script.proofs.read.read_put.Goals as goal
 
 pub returns-in_default : goal.returns-in_default
@@ -27,12 +27,3 @@ returns-in_default-3 c =
     put_no_numbers c.args.text.now c.in-Some.key.now c.in-Some.rest.now (cut_at c.args.text.now c.in-Some.key c.in-Some.rest c.in-Some.ensures.cases)
     c.in-Some-split_once.word.now c.in-Some-split_once.rest.now (cut_at c.in-Some.rest.now c.in-Some-split_once.word c.in-Some-split_once.rest c.in-Some-split_once.ensures.cases)
     (none_read numbers_text Words c.in-Some-split_once.rest.now vec_items c.in_ok-seen.field-0 c.in_default-3.is c.in_ok-seen.ensures)
-
-pub returns : goal.returns
-returns c =
-    let ns = one_read numbers_text Words c.in-Some-split_once.rest.now vec_items c.in_ok-seen.field-0 c.in-Some-3.seen c.in-Some-3.is c.in_ok-seen.ensures in
-    put_read c.args.text.now c.in-Some.key.now c.in-Some.rest.now (cut_at c.args.text.now c.in-Some.key c.in-Some.rest c.in-Some.ensures.cases)
-    c.in-Some-split_once.word.now c.in-Some-split_once.rest.now (cut_at c.in-Some.rest.now c.in-Some-split_once.word c.in-Some-split_once.rest c.in-Some-split_once.ensures.cases)
-    record { key = c.in-Some-number.key; value = c.in-Some-2.value; from = c.remove-from.result; seen = c.remove-from.new.self } (vec_items c.in-Some-3.seen) c.in-Some-number.ensures
-    (one_read value_text Bytes c.in-Some-split_once.word.now vec_items c.in_ok-value.field-0 c.in-Some-2.value c.in-Some-2.is c.in_ok-value.ensures) ns
-    (ap (λ t. c.remove-from.result ∷ t) c.remove-from.ensures.items ∙ first_removed (vec_items c.in-Some-3.seen) c.remove-from.result ns.0.1 c.remove-from.ensures.value)
