@@ -1,12 +1,10 @@
 -- What a script's events and answers stand for. Definitions only.
-use Rattle.std.specs.Prelude.{[], ◌∷◌, map, vec_items}
+use Rattle.std.specs.Prelude.{[], ◌∷◌, map, Some, None, vec_items}
 use Rattle.model.specs.Put as put
 use Rattle.model.specs.Replica as replica
-use Rattle.text.specs.declared.event.Put.{Put}
-use Rattle.text.specs.declared.event.Event.{Event}
-use Rattle.text.specs.declared.event.Event.TheVariants.{Put as Put', Get, Came, Has, Tell}
-use Rattle.text.specs.declared.event.Answer.{Answer}
-use Rattle.text.specs.declared.event.Answer.TheVariants.{Refused, Puts, Nothing, Value, Clock}
+use Rattle.puts.specs.declared.event.Answer.TheVariants.{Refused, Puts, Value, Clock}
+use Rattle.puts.specs.declared.event.Event.TheVariants.{Put as Put', Get, Came, Has, Tell}
+use Rattle.text.specs.Event.{Put, Event, Answer}
 
 -- a put
 abbrev pub put_of : Put → put.Put put.Body
@@ -22,8 +20,8 @@ event_of Tell = replica.tell
 
 -- each answer
 abbrev pub answer_of : Answer → replica.Answer
-answer_of (Refused n k) = replica.refused n k
+answer_of (Refused r) = replica.refused r.number r.place
 answer_of (Puts ps) = replica.puts (map put_of (vec_items ps))
-answer_of Nothing = replica.value []
-answer_of (Value p) = replica.value (put_of p ∷ [])
+answer_of (Value None) = replica.value []
+answer_of (Value (Some p)) = replica.value (put_of p ∷ [])
 answer_of (Clock c) = replica.clock_is (vec_items c)

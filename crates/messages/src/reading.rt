@@ -10,7 +10,7 @@ ghost use Rattle.wire.specs.Said.{answer as answer_in, event as event_in, put_of
 use std::alloc::{AllocError, Global};
 use text::event::{Answer, Event, Put};
 use wire::answer::{Answer as AnswerBytes, Next, PutsBytes};
-use wire::event::{Body, ClockBytes, Event as EventBytes, PutBytes};
+use wire::event::{ClockBytes, Event as EventBytes, PutBytes};
 use wire::number::number;
 use wire::parts::span;
 
@@ -28,8 +28,7 @@ fn event_of(heap: Global, event: EventBytes<'_>) -> Result<Event, AllocError>
     ensures { IfOk result (λ e. event_meant e ≡ event_in event.entry) }
 {
     match event {
-        EventBytes::Put { body } => {
-            let Body::Text { key, value } = body;
+        EventBytes::Put { key, value } => {
             let value = value.to_vec(heap)?;
             Ok(Event::Put { key, value })
         }
@@ -60,22 +59,19 @@ fn answer_of(heap: Global, answer: AnswerBytes<'_>) -> Result<Option<Answer>, Al
     ensures { IfOk result (λ o. option_map answer_meant o ≡ answer_in (Some answer.entry)) }
 {
     match answer {
-        AnswerBytes::Refused { refusal } => Ok(Some(Answer::Refused {
-            number: refusal.number,
-            place: refusal.place,
-        })),
+        AnswerBytes::Refused { refusal } => Ok(Some(Answer::Refused { refusal })),
         AnswerBytes::Puts { puts } => match puts_of(heap, puts)? {
             Some(puts) => Ok(Some(Answer::Puts { puts })),
             None => Ok(None),
         },
-        AnswerBytes::Value { put: None } => Ok(Some(Answer::Nothing)),
+        AnswerBytes::Value { put: None } => Ok(Some(Answer::Value { put: None })),
         AnswerBytes::Value { put: Some(put) } => {
             let put = put_of(heap, put)?;
-            Ok(Some(Answer::Value { put }))
+            Ok(Some(Answer::Value { put: Some(put) }))
         }
         AnswerBytes::Clock { clock } => {
-            let counts = counts_of(heap, clock)?;
-            Ok(Some(Answer::Clock { counts }))
+            let clock = counts_of(heap, clock)?;
+            Ok(Some(Answer::Clock { clock }))
         }
     }
 }
@@ -101,15 +97,13 @@ fn puts_of(heap: Global, puts: PutsBytes<'_>) -> Result<Option<Vec<Put>>, AllocE
 fn put_of(heap: Global, put: PutBytes<'_>) -> Result<Put, AllocError>
     ensures { IfOk result (λ p. put_meant p ≡ put_in put.entry) }
 {
-    let Body::Text { key, value } = put.body;
-    let from = put.from;
-    let value = value.to_vec(heap)?;
+    let value = put.value.to_vec(heap)?;
     let seen = counts_of(heap, put.seen)?;
     Ok(Put {
-        key,
-        value,
-        from,
+        from: put.from,
         seen,
+        key: put.key,
+        value,
     })
 }
 

@@ -7,7 +7,6 @@ ghost use Rattle.wire.specs.Bytes.{write_event};
 
 use std::alloc::{AllocError, Global};
 use text::event::{Event, Put};
-use wire::event::Body;
 use wire_out::answer::Put as Sent;
 use wire_out::event::{write_came, write_get, write_has, write_put, write_tell};
 
@@ -28,7 +27,7 @@ fn put_bytes(heap: Global, key: u64, value: &[u8]) -> Result<Vec<u8>, AllocError
     ensures { IfOk result (λ v. v.items ≡ write_event (put_of (text_of key value.now))) }
 {
     let mut bytes = vec![in heap; 0u8; value.len().saturating_add(10)]?;
-    let end = write_put(bytes.as_mut_slice(), Body::Text { key, value });
+    let end = write_put(bytes.as_mut_slice(), key, value);
     written(bytes, end)
 }
 
@@ -50,8 +49,13 @@ pub fn came_bytes(heap: Global, put: &Put) -> Result<Vec<u8>, AllocError>
     let seen = put.seen.as_slice();
     let most = seen.len().saturating_mul(9).saturating_add(value.len());
     let mut bytes = vec![in heap; 0u8; most.saturating_add(19)]?;
-    let body = Body::Text { key, value };
-    let end = write_came(bytes.as_mut_slice(), Sent { from, seen, body });
+    let sent = Sent {
+        from,
+        seen,
+        key,
+        value,
+    };
+    let end = write_came(bytes.as_mut_slice(), sent);
     written(bytes, end)
 }
 
