@@ -5,7 +5,7 @@ use Rattle.std.specs.declared.alloc.Global.{Global}
 use Rattle.std.proofs.lemmas.List.{map-set, map_push, get_or-map, get_or_push, get_or_append_left, length_push}
 use Rattle.std.proofs.lemmas.Bool.{cases_lt}
 use Rattle.memory.specs.declared.Limits.{Limits}
-use Rattle.text.specs.declared.event.Answer.{Answer}
+use Rattle.text.specs.Event.{Answer}
 use Rattle.player.specs.Played.{New, AllNew, Played, PlayedAt}
 
 pub played_at :

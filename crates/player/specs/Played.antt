@@ -1,7 +1,9 @@
 -- What the player gets of opening and of a call. Definitions only.
-use Rattle.std.specs.Prelude.{◌≡◌, ℕ, ◌<◌, ◌≤◌, Bool, true, false, List, [], length, Some, slice_index_or, slice_set}
+use Rattle.std.specs.Prelude.{◌≡◌, ℕ, ◌<◌, ◌≤◌, Ok, Err, Result, List, [], length, Some, slice_index_or, slice_set}
 use Rattle.model.specs.Replica.{refused}
-use Rattle.text.specs.declared.event.Answer.{Answer}
+use Rattle.stage.specs.declared.play.OpenError.{OpenError}
+use Rattle.stage.specs.declared.play.OpenError.TheVariants.{OutOfRange, Io}
+use Rattle.text.specs.Event.{Answer}
 use Rattle.wire.specs.Answers.{read_answer}
 use Rattle.memory.specs.Layout.{InRange}
 use Rattle.memory.specs.Laws.{Opened}
@@ -31,6 +33,7 @@ pub record AllNew (x : Limits) (n : ℕ) (ms : List (List ℕ)) : Type 0 where
   pub each : (i : ℕ) → i < n → New x i (slice_index_or ms i [])
 
 -- OPENING: all anew, where the limits are in range; else the memories stay
-abbrev pub Anew : Bool → Limits → List (List ℕ) → List (List ℕ) → Type 0
-Anew true x ms ms' = InRange x × AllNew x x.replicas ms'
-Anew false x ms ms' = (InRange x → ⊥) × (ms' ≡ ms)
+abbrev pub Anew : Result (Unit {0}) OpenError → Limits → List (List ℕ) → List (List ℕ) → Type 0
+Anew (Ok done) x ms ms' = InRange x × AllNew x x.replicas ms'
+Anew (Err OutOfRange) x ms ms' = (InRange x → ⊥) × (ms' ≡ ms)
+Anew (Err (Io e)) x ms ms' = ms' ≡ ms

@@ -21,10 +21,7 @@ impl Made {
     pub fn nothing(heap: Global, replicas: u64) -> Result<Made, AllocError>
         ensures { IfOk result (λ m. remembered m.puts ≡ replicate replicas []) }
     {
-        let mut puts = Vec::new(heap);
-        for _ in 0..replicas {
-            puts.push(Vec::new(heap))?;
-        }
+        let puts = (0..replicas).map(|_| Vec::new(heap)).collect(heap)?;
         Ok(Made { heap, puts })
     }
 
@@ -33,8 +30,8 @@ impl Made {
         ensures { OnOk result (remembered self.new.puts ≡ one_more (remembered self.old.puts) put.now.from (write_event (came (put_of put.now)))) }
     {
         let bytes = came_bytes(self.heap, put)?;
-        if put.from < self.puts.len() as u64 {
-            self.puts[put.from as usize].push(bytes)?;
+        if let Some(puts) = self.puts.get_mut(put.from as usize) {
+            puts.push(bytes)?;
         }
         Ok(())
     }
@@ -43,12 +40,8 @@ impl Made {
     pub fn find(&self, maker: u64, number: u64) -> Option<&[u8]>
         ensures { MatchOption result (put_made (remembered self.now.puts) maker number ≡ []) (λ b. put_made (remembered self.now.puts) maker number ≡ b.now ∷ []) }
     {
-        if maker >= self.puts.len() as u64 || number == 0 {
-            return None;
-        }
-        match self.puts[maker as usize].get((number - 1) as usize) {
-            Some(bytes) => Some(bytes.as_slice()),
-            None => None,
-        }
+        let place = number.checked_sub(1)?;
+        let bytes = self.puts.get(maker as usize)?.get(place as usize)?;
+        Some(bytes.as_slice())
     }
 }

@@ -1,5 +1,5 @@
 // The replicas that are played: the memory that each is lent, and the bytes of its answers.
-ghost use Rattle.player.specs.Played.{Anew, New, Played, PlayedAt};
+ghost use Rattle.player.specs.Played.{AllNew, Anew, New, Played, PlayedAt};
 ghost use Rattle.memory.specs.Layout.{InRange};
 ghost use Rattle.std.specs.Prelude.{◌≡◌, map, IfOk, vec_items, vec_len};
 
@@ -8,6 +8,7 @@ use memory::{Limits, open};
 use messages::reading::read_answer;
 use puts::words::SLOT;
 use slots::HEADER;
+use stage::play::{OpenError, REFUSED};
 use std::alloc::{AllocError, Global};
 use std::io;
 use text::event::Answer;
@@ -35,19 +36,15 @@ impl Replicas {
         self.memories.len() as u64
     }
 
-    // Opens all anew; or all stay as they are, where the limits are out of range.
-    pub fn open_all(&mut self, limits: Limits) -> io::Result<bool>
-        ensures { IfOk result (λ b. Anew b limits (map vec_items self.old.memories.items) (map vec_items self.new.memories.items)) }
+    // Opens all anew; or all stay as they are.
+    pub fn open_all(&mut self, limits: Limits) -> Result<(), OpenError>
+        ensures { Anew result limits (map vec_items self.old.memories.items) (map vec_items self.new.memories.items) }
     {
         if !limits.in_range() {
-            return Ok(false);
+            return Err(OpenError::OutOfRange);
         }
-        let mut memories = Vec::new(self.heap);
-        for me in 0..limits.replicas {
-            memories.push(opened(self.heap, limits, me)?)?;
-        }
-        self.memories = memories;
-        Ok(true)
+        self.memories = all_opened(self.heap, limits)?;
+        Ok(())
     }
 
     // The bytes come to a replica as an event. One that is not open refuses.
@@ -62,23 +59,24 @@ impl Replicas {
     }
 }
 
-// What cannot be played is refused so.
-pub const REFUSED: Answer = Answer::Refused {
-    number: 2,
-    place: 0,
-};
-
 // The bytes come to the replica whose memory this is, and what it answers is read from its bytes.
 fn answered(heap: Global, memory: &mut [u64], event: &[u8], answer: &mut [u8]) -> io::Result<Answer>
     ensures { IfOk result (λ a. Played memory.old event.now memory.new a) }
 {
-    let Some(end) = call(memory, event, answer) else {
-        return Err(io::ErrorKind::InvalidData.into());
-    };
-    match read_answer(heap, &answer[0..end])? {
-        Some(answer) => Ok(answer),
-        None => Err(io::ErrorKind::InvalidData.into()),
+    let end = call(memory, event, answer).ok_or(io::ErrorKind::InvalidData)?;
+    Ok(read_answer(heap, &answer[..end])?.ok_or(io::ErrorKind::InvalidData)?)
+}
+
+// Memory for all replicas, each opened in its own.
+fn all_opened(heap: Global, limits: Limits) -> io::Result<Vec<Vec<u64>>>
+    requires { InRange limits }
+    ensures { IfOk result (λ v. AllNew limits limits.replicas (map vec_items v.items)) }
+{
+    let mut memories = Vec::new(heap);
+    for me in 0..limits.replicas {
+        memories.push(opened(heap, limits, me)?)?;
     }
+    Ok(memories)
 }
 
 // Memory for one replica, which is opened in it.
@@ -88,8 +86,6 @@ fn opened(heap: Global, limits: Limits, me: usize) -> io::Result<Vec<u64>>
 {
     let slots = limits.keys + limits.log + limits.waiting;
     let mut memory = vec![in heap; 0u64; HEADER + SLOT * slots]?;
-    match open(memory.as_mut_slice(), limits, me) {
-        Ok(_) => Ok(memory),
-        Err(_) => Err(io::ErrorKind::InvalidInput.into()),
-    }
+    open(memory.as_mut_slice(), limits, me).map_err(|_| io::ErrorKind::InvalidInput)?;
+    Ok(memory)
 }

@@ -1,6 +1,6 @@
 use Rattle.std.proofs.Common.{vec_items}
 use Rattle.player.proofs.Calls.{one_more_new}
-use Rattle.player.proofs.replicas.Replicas.open_all.Goals as goal
+use Rattle.player.proofs.replicas.all_opened.Goals as goal
 
 pub loop-me-preserved : goal.loop-me-preserved
 loop-me-preserved c =
