@@ -1,32 +1,15 @@
 -- The puts made in a play.
-use Rattle.std.proofs.Common.{◌≡◌, ℕ, zero, suc, ◌+◌, ◌-◌, ◌<◌, ◌≤◌, List, [], ◌∷◌, ◌++◌, map, length, get_or, take, drop, set, replicate, vec_items, Vec, sym, refl, ap, ◌∙◌, arith}
+use Rattle.std.proofs.Common.{◌≡◌, ℕ, zero, suc, ◌-◌, ◌<◌, List, [], ◌∷◌, ◌++◌, map, length, get_or, take, set, vec_items, Vec, sym, ap, ◌∙◌, arith}
 use lib.ListN.{length-map}
 use Rattle.std.specs.declared.alloc.Global.{Global}
-use lib.Seq.{set_out}
-use Rattle.std.proofs.lemmas.List.{drop_all, drop_more, get_or-map, map_push, map-set, replicate_more}
+use Rattle.std.proofs.lemmas.List.{drop_more, get_or-map, map_push, map-set}
 use Rattle.player.specs.Remembered.{one_more, put_made}
 
 abbrev pub bytes_of : Vec (Vec ℕ Global) Global → List (List ℕ)
 bytes_of v = map vec_items (vec_items v)
 
-past : {A : Type 0} (xs : List A) (j : ℕ) (d : A) → length xs ≤ j → get_or xs j d ≡ d
-past [] j d h = refl
-past (x ∷ xs) zero d h = absurd (omega arith)
-past (x ∷ xs) (suc j) d h = past xs j d (omega arith)
-
 -- put number n of replica j, by the puts of j
-pub beyond : (pss : List (List (List ℕ))) (j n : ℕ) → length (get_or pss j []) < n → put_made pss j n ≡ []
-beyond pss j zero h = refl
-beyond pss j (suc n) h = ap (take 1) (drop_all n (get_or pss j []) (omega arith))
-
-pub no_number : (pss : List (List (List ℕ))) (j n : ℕ) → n ≡ 0 → put_made pss j n ≡ []
-no_number pss j n e = ap (put_made pss j) e
-
-pub no_maker : (pss : List (List (List ℕ))) (j n : ℕ) → length pss ≤ j → put_made pss j n ≡ []
-no_maker pss j zero h = refl
-no_maker pss j (suc n) h = ap (λ t. take 1 (drop n t)) (past pss j [] h) ∙ ap (take 1) (drop_all n [] (omega arith))
-
-pub there : (pss : List (List (List ℕ))) (j n : ℕ) (d : List ℕ) → 0 < n → n - 1 < length (get_or pss j []) → put_made pss j n ≡ get_or (get_or pss j []) (n - 1) d ∷ []
+there : (pss : List (List (List ℕ))) (j n : ℕ) (d : List ℕ) → 0 < n → n - 1 < length (get_or pss j []) → put_made pss j n ≡ get_or (get_or pss j []) (n - 1) d ∷ []
 there pss j zero d z h = absurd (omega arith)
 there pss j (suc n) d z h =
     let k : suc n - 1 ≡ n = omega arith in
@@ -42,14 +25,6 @@ module _ (vs : List (Vec (Vec ℕ Global) Global)) where
       let same : bytes_of v ≡ get_or pss j [] ++ (vec_items b ∷ []) = ap (map vec_items) e ∙ map_push vec_items (vec_items (get_or vs j d)) b ∙ ap (λ t. t ++ (vec_items b ∷ [])) (sym (get_or-map bytes_of vs j d [] h)) in
       map-set bytes_of vs j v ∙ ap (set pss j) same
 
-  -- or of none
-  pub not_added : (j : ℕ) (b : List ℕ) → length vs ≤ j → pss ≡ one_more pss j b
-  not_added j b h = sym (set_out pss j _ (let k = length-map vs bytes_of in omega arith))
-
-  -- one replica more, which made nothing
-  pub nobody : (n : ℕ) (us : List (Vec (Vec ℕ Global) Global)) (v : Vec (Vec ℕ Global) Global) → us ≡ vs ++ (v ∷ []) → vec_items v ≡ [] → pss ≡ replicate n [] → map bytes_of us ≡ replicate (n + 1) []
-  nobody n us v e none all = ap (map bytes_of) e ∙ map_push bytes_of vs v ∙ (λ i. all i ++ (map vec_items (none i) ∷ [])) ∙ replicate_more n []
-
   -- what replica j made, read from its vector
   puts_of : (j : ℕ) (d v : Vec (Vec ℕ Global) Global) (xs : List (Vec ℕ Global)) → j < length vs → v ≡ get_or vs j d → xs ≡ vec_items v → get_or pss j [] ≡ map vec_items xs
   puts_of j d v xs h e f = get_or-map bytes_of vs j d [] h ∙ ap bytes_of (sym e) ∙ ap (map vec_items) (sym f)
@@ -61,6 +36,3 @@ module _ (vs : List (Vec (Vec ℕ Global) Global)) where
       let all = puts_of j d v xs h e f in
       let many = ap length all ∙ length-map xs vec_items in
       there pss j n [] z (omega arith) ∙ ap (λ x. x ∷ []) (ap (λ ys. get_or ys (n - 1) []) all ∙ get_or-map vec_items xs (n - 1) b [] k ∙ ap vec_items (sym g) ∙ sym t)
-
-  pub not_found : (j n : ℕ) (d v : Vec (Vec ℕ Global) Global) (xs : List (Vec ℕ Global)) → j < length vs → v ≡ get_or vs j d → xs ≡ vec_items v → 0 < n → length xs ≤ n - 1 → put_made pss j n ≡ []
-  not_found j n d v xs h e f z k = let many = ap length (puts_of j d v xs h e f) ∙ length-map xs vec_items in beyond pss j n (omega arith)

@@ -51,11 +51,11 @@ impl Replicas {
     pub fn call(&mut self, replica: u64, event: &[u8]) -> io::Result<Answer>
         ensures { IfOk result (λ a. PlayedAt (map vec_items self.old.memories.items) replica event.now (map vec_items self.new.memories.items) a) }
     {
-        if replica >= self.count() {
+        let Some(memory) = self.memories.get_mut(replica as usize) else {
             return Ok(REFUSED);
-        }
-        let memory = self.memories[replica as usize].as_mut_slice();
-        answered(self.heap, memory, event, self.answer.as_mut_slice())
+        };
+        let answer = self.answer.as_mut_slice();
+        answered(self.heap, memory.as_mut_slice(), event, answer)
     }
 }
 
