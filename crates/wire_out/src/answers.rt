@@ -67,22 +67,19 @@ pub fn write_puts(out: &mut [u8], puts: &[Put<'_>]) -> Option<usize>
 pub fn write_value(out: &mut [u8], put: Option<Put<'_>>) -> Option<usize>
     ensures { Written result out.old out.new (answer_written (value_of (none_or_one put.entry))) }
 {
-    match put {
-        None => write_none(out),
-        Some(put) => write_one(out, put),
-    }
+    write_all(out, AnswerKind::Value, put.as_slice())
 }
 
 pub fn write_none(out: &mut [u8]) -> Option<usize>
     ensures { Written result out.old out.new (answer_written (value_of [])) }
 {
-    write_all(out, AnswerKind::Value, &[])
+    write_value(out, None)
 }
 
 pub fn write_one(out: &mut [u8], put: Put<'_>) -> Option<usize>
     ensures { Written result out.old out.new (answer_written (value_of (put_of put.entry ∷ []))) }
 {
-    write_all(out, AnswerKind::Value, &[put])
+    write_value(out, Some(put))
 }
 
 pub fn write_clock(out: &mut [u8], clock: &[u64]) -> Option<usize>
