@@ -17,7 +17,7 @@ ghost use Rattle.std.specs.Prelude.{◌≡◌, ℕ, ◌<◌, ◌≤◌, true, Li
 
 use delivery::{deliver, had, nothing_new, ready, stamp, take_own};
 use logs::{Place, Replica};
-use memory::{Refusal as Foreign, limits_of};
+use memory::limits_of;
 use puts::event::Refusal;
 use puts::{Clock, Put, Text};
 use ranges::{Checked, in_range};
@@ -65,10 +65,10 @@ impl From<Garbled> for Reason {
     }
 }
 
-impl From<Foreign> for Reason {
+impl From<memory::OutOfRange> for Reason {
     ghost from_gives = { λ _ w. w ≡ OutOfRange };
 
-    fn from(_: Foreign) -> Reason {
+    fn from(_: memory::OutOfRange) -> Reason {
         Reason::OutOfRange
     }
 }

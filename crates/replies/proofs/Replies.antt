@@ -1,5 +1,5 @@
 -- A reply, put by put.
-use Rattle.std.proofs.Common.{◌≡◌, ℕ, zero, suc, ◌+◌, ◌≤◌, true, List, [], ◌∷◌, ◌++◌, reverse, length, take, Some, None, Option, sym, refl, ap, ◌∙◌, inl, inr, subst, arith}
+use Rattle.std.proofs.Common.{◌≡◌, Ok, true, ℕ, zero, suc, ◌+◌, ◌≤◌, List, [], ◌∷◌, ◌++◌, reverse, length, take, Some, None, Option, sym, refl, ap, ◌∙◌, inl, inr, subst, arith}
 use Rattle.std.specs.List.{flat_map}
 use Rattle.std.proofs.lemmas.List.{length-take, take_all, flat_map_more}
 use Rattle.model.specs.Limits.{Limits, reply_most}
@@ -19,7 +19,12 @@ use Rattle.logs.proofs.Logs.{in_at}
 use Rattle.model.specs.Lists.{In}
 use Rattle.logs.specs.State.{nth_of}
 use Rattle.wire.specs.Bytes.{write_answer, write_item}
-use Rattle.calls.specs.Answered.{one_put}
+use Rattle.calls.specs.Answered.{Answer, code_answer, one_put, says_in}
+use Rattle.calls.proofs.Said.{answer_said}
+use Rattle.memory.specs.Valid.{Valid}
+use Rattle.model.specs.Program.{readable}
+use Rattle.model.specs.Replica.{Replica, Event, in_range, answer}
+use Rattle.wire.specs.Bytes.{write_answer}
 use Rattle.calls.proofs.Acts.{back}
 use Rattle.wire_out.specs.declared.writer.Writer.{Writer}
 use Rattle.wire_out.specs.Written.{Adds, Wrote}
@@ -57,6 +62,7 @@ reply_sound l r c v q i = in_at (Sound l) r.delivery.log q v.fits.delivery.logs 
 pub reply_whole : (c : Clock) (d : Delivery Body) (i : ℕ) → reply_most ≤ i → take i (reply c d) ≡ reply c d
 reply_whole c d i h = take_all i (reply c d) (let k = length-take reply_most (lacking c (reverse d.log)) in omega (arith, k))
 
--- what a writer wrote from the beginning on
-pub writes : {p q : Writer} {w : List ℕ} {P : List ℕ → Type 0} → Adds p q w → p.at ≡ 0 → q.at ≤ answer_most → P w → Writes q.at p.out.now q.out.now P
-writes {q = q} {w = w} a z most e = record { bytes = w; wrote = subst (λ k. Wrote q.at k _ q.out.now w) z a.wrote; most = most; are = e }
+-- WHAT AN ANSWER MEANS: the bytes of what the code's answer says are those of the model's
+pub means : (l : Limits) (r : Replica) (e : Event) (n : ℕ) → Valid l r → n ≡ l.replicas → readable e ≡ true → in_range l e ≡ true → (a : Answer) → Ok a ≡ code_answer l r e →
+    (b : List ℕ) → b ≡ write_answer (says_in n r.delivery (Ok a)) → b ≡ write_answer (answer l r e)
+means l r e n v f rd g a s b w = w ∙ ap write_answer ((λ i. says_in (f i) r.delivery (s i)) ∙ answer_said l r e v rd g)

@@ -1,16 +1,16 @@
-// What a replica answers, written as bytes into a lent array that can hold every answer.
+// What a replica answers, written as bytes into a lent slice that can hold every answer.
 #![tactic(auto)]
 
-ghost use Rattle.std.specs.Prelude.{◌≡◌, ℕ, ◌≤◌, true, ◌∷◌, length, Ok};
+ghost use Rattle.std.specs.Prelude.{◌≡◌, ◌≤◌, true, ◌∷◌, take, length, Ok};
 ghost use Rattle.logs.specs.State.{Held};
 ghost use Rattle.model.specs.Clock.{Clock as ModelClock};
 ghost use Rattle.model.specs.Delivery.{reply as reply_of};
 ghost use Rattle.model.specs.Limits.{Limits as ModelLimits};
 ghost use Rattle.model.specs.Program.{readable};
-ghost use Rattle.model.specs.Replica.{Event as ModelEvent, Replica as ModelReplica, answer as answer_of, in_range, puts as puts_of, refused};
+ghost use Rattle.model.specs.Replica.{Event as ModelEvent, Replica as ModelReplica, answer as answer_of, clock_is, in_range, puts as puts_of, refused};
 ghost use Rattle.puts.specs.Values.{code_clock};
 ghost use Rattle.calls.specs.Answered.{code_answer, none_or_one, number_of, one_put, place_of};
-ghost use Rattle.replies.specs.Written.{Writes, item_most};
+ghost use Rattle.replies.specs.Written.{Writes, answer_most, item_most};
 ghost use Rattle.wire.specs.Bytes.{write_answer, write_item, write_puts};
 ghost use Rattle.wire.specs.Kinds.{answer_number};
 ghost use Rattle.wire_out.specs.Said.{put_of};
@@ -40,16 +40,82 @@ fn sent(put: &Put, replicas: usize) -> Sent<'_>
     }
 }
 
-pub fn put_refusal(out: &mut [u8; ANSWER_MOST], reason: Reason) -> usize
+pub fn put_refusal(out: &mut [u8], reason: Reason) -> usize
+    requires { answer_most ≤ length out.old }
     ensures { Writes result out.old out.new (λ b. b ≡ write_answer (refused (number_of reason) (place_of reason))) }
 {
     let refusal = Refusal::from(reason);
-    let mut to = Writer {
-        out: out.as_mut_slice(),
-        at: 0,
-    };
+    let mut to = Writer { out, at: 0 };
     to.byte(AnswerKind::Refused.number());
     to.number(refusal.number);
     to.number(refusal.place);
     to.at
+}
+
+// None or one put behind an answer's kind.
+fn put_few(
+    out: &mut [u8],
+    kind: AnswerKind,
+    put: Option<Put>,
+    replicas: usize,
+) -> usize
+    requires room { answer_most ≤ length out.old }
+    requires counts { replicas ≤ 16 }
+    ensures { Writes result out.old out.new (λ b. b ≡ answer_number kind ∷ write_puts (none_or_one replicas put)) }
+{
+    let mut to = Writer { out, at: 0 };
+    to.byte(kind.number());
+    if let Some(put) = put {
+        to.item(sent(&put, replicas));
+    }
+    to.end();
+    to.at
+}
+
+// The logged puts that a clock lacks, the earliest first, eight at most.
+fn put_reply(out: &mut [u8], replica: &Replica<'_>, clock: &Clock) -> usize
+    requires { answer_most ≤ length out.old }
+    ensures { Writes result out.old out.new (λ b. (l : ModelLimits) (r : ModelReplica) (c : ModelClock) → Held l r replica.now → length c ≡ l.replicas → clock.now ≡ code_clock c → b ≡ write_answer (puts_of (reply_of c r.delivery))) }
+{
+    let mut to = Writer { out, at: 0 };
+    to.byte(AnswerKind::Puts.number());
+    for i in 0..REPLY_MOST {
+        let Some(put) = replica.reply_at(clock, i) else {
+            break;
+        };
+        to.item(sent(&put, replica.at.replicas));
+    }
+    to.end();
+    to.at
+}
+
+// A clock with as many counts as there are replicas.
+fn put_clock(out: &mut [u8], clock: &Clock, replicas: usize) -> usize
+    requires room { answer_most ≤ length out.old }
+    requires counts { replicas ≤ 16 }
+    ensures { Writes result out.old out.new (λ b. b ≡ write_answer (clock_is (take replicas clock.now.counts))) }
+{
+    let mut to = Writer { out, at: 0 };
+    to.byte(AnswerKind::Clock.number());
+    to.clock(&clock.counts[..replicas]);
+    to.at
+}
+
+// What an accepted event is answered, from the state before it.
+pub fn put_answer(
+    out: &mut [u8],
+    replica: &Replica<'_>,
+    answer: &Answer<Clock>,
+) -> usize
+    requires { answer_most ≤ length out.old }
+    ensures { Writes result out.old out.new (λ b. (l : ModelLimits) (r : ModelReplica) (e : ModelEvent) → Held l r replica.now → readable e ≡ true → in_range l e ≡ true → Ok answer.now ≡ code_answer l r e → b ≡ write_answer (answer_of l r e)) }
+{
+    let replicas = replica.at.replicas;
+    match answer {
+        Answer::Made { put } => put_few(out, AnswerKind::Puts, Some(*put), replicas),
+        Answer::Came => put_few(out, AnswerKind::Puts, None, replicas),
+        Answer::Reply { to } => put_reply(out, replica, to),
+        Answer::Value { put } => put_few(out, AnswerKind::Value, *put, replicas),
+        Answer::Clock { clock } => put_clock(out, clock, replicas),
+    }
 }
