@@ -6,7 +6,7 @@ use Rattle.model.specs.Replica.{Event, Answer}
 use Rattle.memory.specs.Layout.{InRange, code_limits, words}
 use Rattle.memory.specs.Laws.{Opening}
 use Rattle.memory.specs.declared.Layout.{Layout}
-use Rattle.memory.specs.declared.Refusal.{Refusal}
+use Rattle.memory.specs.declared.OutOfRange.{OutOfRange as NoRoom}
 use Rattle.wire.specs.Bytes.{write_event}
 use Rattle.wire.specs.Answers.{read_answer}
 use Rattle.endpoint.specs.Call.{Calls}
@@ -19,7 +19,7 @@ all_events k = true
 pub record Runs (f : Program) : Type 0 where
   pub lent : Limits → ℕ → List ℕ
   pub enough : (l : Limits) (i : ℕ) → InRange (code_limits l) → length (lent l i) ≡ words l
-  pub opened_as : Limits → ℕ → Result Layout Refusal
+  pub opened_as : Limits → ℕ → Result Layout NoRoom
   pub opening : (l : Limits) (i : ℕ) → Opening (code_limits l) i (lent l i) (f.opened l i) (opened_as l i)
   pub bytes : List ℕ → Event → List ℕ
   pub calling : (m : List ℕ) (e : Event) → all_below word_bound m ≡ true → readable e ≡ true → Calls m (write_event e) (f.called m e) (bytes m e)

@@ -1,45 +1,38 @@
 // A replica by bytes: an event's bytes in, its answer's bytes out.
 #![tactic(auto)]
 
-ghost use Rattle.std.specs.Prelude.{◌≡◌, ℕ, ◌≤◌, true, length, take, IfSome};
-ghost use Rattle.endpoint.specs.Call.{Called};
+ghost use Rattle.std.specs.Prelude.{◌≡◌, ◌≤◌, length, take, IfSome};
+ghost use Rattle.endpoint.specs.Call.{Answered, Called, Happens};
 ghost use Rattle.endpoint.specs.Running.{Runs, all_events};
 ghost use Rattle.endpoint.specs.Theorems.{EveryLifeRight, InEveryLife, LivesConverge, LivesHappen};
-ghost use Rattle.logs.specs.State.{Holds, Laid, Ranged};
-ghost use Rattle.model.specs.Limits.{Limits as ModelLimits};
-ghost use Rattle.model.specs.Program.{AnswersRight, MemoryBounded, Program, RefusalKeepsMemory, readable};
-ghost use Rattle.model.specs.Replica.{Event as ModelEvent, Replica, after, answer as answer_of, in_range as is_in_range, legible};
-ghost use Rattle.ranges.specs.Checked.{code_event};
-ghost use Rattle.calls.specs.Answered.{AllSupported};
-ghost use Rattle.replies.specs.Written.{Writes, answer_most};
-ghost use Rattle.wire.specs.Bytes.{write_answer};
+ghost use Rattle.model.specs.Program.{AnswersRight, MemoryBounded, Program, RefusalKeepsMemory};
+ghost use Rattle.replies.specs.Written.{answer_most};
 
-use calls::{answer_to, apply};
-use logs::Place;
-use memory::{Refusal, limits_of};
-use puts::words::SLOT;
-use ranges::{Checked, in_range};
+use calls::{Reason, answer_to, apply, enter};
+use logs::{Place, Replica};
+use ranges::Checked;
 pub use replies::ANSWER_MOST;
 use replies::{put_answer, put_refusal};
-use slots::HEADER;
-use wire::read::read_event;
 
-const OUT_OF_RANGE: Refusal = Refusal {
-    number: 2,
-    place: 0,
-};
-
-// An event whose numbers are in range happens: first it is answered, then it changes the replica.
-fn happen(mem: &mut [u64], at: Place, event: &Checked, out: &mut [u8]) -> usize
-    requires room { answer_most ≤ length out.old }
-    requires place { Ranged at }
-    ensures says { Writes result out.old out.new (λ b. (l : ModelLimits) (r : Replica) (e : ModelEvent) → Holds l r mem.old → Laid l r.delivery.me at → AllSupported l → legible e ≡ true → readable e ≡ true → is_in_range l e ≡ true → event.now ≡ code_event e → b ≡ write_answer (answer_of l r e)) }
-    ensures does { (l : ModelLimits) (r : Replica) (e : ModelEvent) → Holds l r mem.old → Laid l r.delivery.me at → AllSupported l → legible e ≡ true → readable e ≡ true → is_in_range l e ≡ true → event.now ≡ code_event e → Holds l (after l r e) mem.new }
+// An event whose numbers are in range happens: first it is answered, then it changes the replica. What is refused changes nothing, and nothing is written.
+fn happen(mem: &mut [u64], at: Place, event: &Checked, out: &mut [u8]) -> Result<usize, Reason>
+    requires { answer_most ≤ length out.old }
+    ensures { Happens result mem.old at event.now mem.new out.old out.new }
 {
-    let answer = answer_to(mem, at, event);
-    let len = put_answer(out, mem, at, &answer);
-    apply(mem, at, event, &answer);
-    len
+    let mut replica = Replica { mem, at };
+    let answer = answer_to(&replica, event)?;
+    let len = put_answer(out, &replica, &answer);
+    apply(&mut replica, event, &answer);
+    Ok(len)
+}
+
+// The event that the bytes are happens at the replica whose memory this is.
+fn answered(mem: &mut [u64], event: &[u8], out: &mut [u8]) -> Result<usize, Reason>
+    requires { answer_most ≤ length out.old }
+    ensures { Answered result mem.old event.now mem.new out.old out.new }
+{
+    let (at, event) = enter(mem, event)?;
+    happen(&mut mem[..at.words()], at, &event, out)
 }
 
 // The event that the bytes are happens at the replica whose memory this is; its answer stands in the first bytes of `out`, as many as are returned. What is refused changes nothing; memory that is no replica's is refused by 2. None, and nothing happens, if `out` cannot hold every answer.
@@ -50,25 +43,10 @@ pub fn call(mem: &mut [u64], event: &[u8], out: &mut [u8]) -> Option<usize>
     if out.len() < ANSWER_MOST {
         return None;
     }
-    let Ok((limits, me)) = limits_of(mem) else {
-        return Some(put_refusal(out, OUT_OF_RANGE));
-    };
-    let event = match read_event(event) {
-        Ok(event) => event,
-        Err(refusal) => {
-            let refusal = Refusal {
-                number: refusal.number,
-                place: refusal.place,
-            };
-            return Some(put_refusal(out, refusal));
-        }
-    };
-    let Some(checked) = in_range(limits, event) else {
-        return Some(put_refusal(out, OUT_OF_RANGE));
-    };
-    let at = Place::new(limits, me);
-    let words = HEADER + SLOT * (at.layout.waiting.base + at.layout.waiting.count);
-    Some(happen(&mut mem[..words], at, &checked, out))
+    match answered(mem, event, out) {
+        Ok(len) => Some(len),
+        Err(reason) => Some(put_refusal(out, reason)),
+    }
 }
 
 // WHAT IS PROVED OF EVERY RUN of one replica. After any events each answer is the one that the rules give.

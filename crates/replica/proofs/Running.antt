@@ -12,7 +12,7 @@ use Rattle.memory.specs.Image.{encode}
 use Rattle.memory.specs.Valid.{Valid}
 use Rattle.memory.specs.Laws.{Opened, Opening}
 use Rattle.memory.specs.declared.Layout.{Layout}
-use Rattle.memory.specs.declared.Refusal.{Refusal}
+use Rattle.memory.specs.declared.OutOfRange.{OutOfRange as NoRoom}
 use Rattle.memory.proofs.Images.{encode_length}
 use Rattle.memory.proofs.Sound.{words_fit}
 use Rattle.memory.proofs.Starts.{header_says}
@@ -26,9 +26,9 @@ record Holding (l : Limits) (r : Replica) (m : List ℕ) : Type 0 where
   pub mem : m ≡ encode l r ++ []
 
 -- opening with room is no refusal
-opens : (x : Result Layout Refusal) (l : Limits) (i : ℕ) (before m : List ℕ) → Room (code_limits l) i before → Opening (code_limits l) i before m x → Opened (code_limits l) i before m
+opens : (x : Result Layout NoRoom) (l : Limits) (i : ℕ) (before m : List ℕ) → Room (code_limits l) i before → Opening (code_limits l) i before m x → Opened (code_limits l) i before m
 opens (Ok a) l i before m room o = o.1
-opens (Err e) l i before m room o = absurd (o.1.0 room)
+opens (Err e) l i before m room o = absurd (o.0 room)
 
 -- each below a bound, by the test
 below_all : (b : ℕ) (xs : List ℕ) → AllByRecursion (λ w. w < b) xs → all_below b xs ≡ true

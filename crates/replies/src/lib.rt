@@ -53,12 +53,7 @@ pub fn put_refusal(out: &mut [u8], reason: Reason) -> usize
 }
 
 // None or one put behind an answer's kind.
-fn put_few(
-    out: &mut [u8],
-    kind: AnswerKind,
-    put: Option<Put>,
-    replicas: usize,
-) -> usize
+fn put_few(out: &mut [u8], kind: AnswerKind, put: Option<Put>, replicas: usize) -> usize
     requires room { answer_most ≤ length out.old }
     requires counts { replicas ≤ 16 }
     ensures { Writes result out.old out.new (λ b. b ≡ answer_number kind ∷ write_puts (none_or_one replicas put)) }
@@ -77,16 +72,16 @@ fn put_reply(out: &mut [u8], replica: &Replica<'_>, clock: &Clock) -> usize
     requires { answer_most ≤ length out.old }
     ensures { Writes result out.old out.new (λ b. (l : ModelLimits) (r : ModelReplica) (c : ModelClock) → Held l r replica.now → length c ≡ l.replicas → clock.now ≡ code_clock c → b ≡ write_answer (puts_of (reply_of c r.delivery))) }
 {
-    let mut to = Writer { out, at: 0 };
-    to.byte(AnswerKind::Puts.number());
+    let mut reply = Writer { out, at: 0 };
+    reply.byte(AnswerKind::Puts.number());
     for i in 0..REPLY_MOST {
         let Some(put) = replica.reply_at(clock, i) else {
             break;
         };
-        to.item(sent(&put, replica.at.replicas));
+        reply.item(sent(&put, replica.at.replicas));
     }
-    to.end();
-    to.at
+    reply.end();
+    reply.at
 }
 
 // A clock with as many counts as there are replicas.
@@ -102,11 +97,7 @@ fn put_clock(out: &mut [u8], clock: &Clock, replicas: usize) -> usize
 }
 
 // What an accepted event is answered, from the state before it.
-pub fn put_answer(
-    out: &mut [u8],
-    replica: &Replica<'_>,
-    answer: &Answer<Clock>,
-) -> usize
+pub fn put_answer(out: &mut [u8], replica: &Replica<'_>, answer: &Answer<Clock>) -> usize
     requires { answer_most ≤ length out.old }
     ensures { Writes result out.old out.new (λ b. (l : ModelLimits) (r : ModelReplica) (e : ModelEvent) → Held l r replica.now → readable e ≡ true → in_range l e ≡ true → Ok answer.now ≡ code_answer l r e → b ≡ write_answer (answer_of l r e)) }
 {

@@ -12,5 +12,5 @@ use Rattle.replies.proofs.put_reply.Given as goal
 
 abbrev pub invariant-loop-i : goal.invariant-loop-i
 invariant-loop-i l =
-    (l.to.at ≤ 1 + l.i * item_most) × ((b : List ℕ) × Adds l.initial.to l.to b
+    (l.reply.at ≤ 1 + l.i * item_most) × ((b : List ℕ) × Adds l.initial.reply l.reply b
     × ((m : Limits) (r : Replica) (c : Clock) → Held m r l.replica → length c ≡ m.replicas → l.clock ≡ code_clock c → b ≡ items l.i (reply c r.delivery)))
