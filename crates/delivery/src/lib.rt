@@ -149,6 +149,7 @@ fn keep(replica: &mut Replica<'_>, count: usize, clock: &Clock) -> usize
     ensures bound { result ≤ count }
     ensures moved { (l : Limits) (r : ModelReplica) → Stands l r replica.old → count ≡ length r.delivery.waiting → clock.now ≡ code_clock r.delivery.clock → Moved l r replica.new.mem.now count result }
 {
+    // A fold would write the memory in its closure, and no chain says what that leaves.
     let mut stay = 0;
     for i in 0..count {
         if !had_at(replica, i, clock) {
