@@ -1,6 +1,6 @@
 // A command to events: what a play does for each line, and prints.
 ghost use Rattle.stage.specs.Lines.{Unread, passed_over, unread_text};
-ghost use Rattle.std.specs.Prelude.{◌≡◌, ◌++◌, true, OnOk, string_bytes};
+ghost use Rattle.std.specs.Prelude.{◌≡◌, [], ◌++◌, true, OnOk, string_bytes};
 
 use memory::Limits;
 use puts::event::Refusal;
@@ -76,7 +76,10 @@ pub struct Play<C> {
 }
 
 impl<C: Cluster> Play<C> {
-    pub fn new(heap: Global, cluster: C) -> Play<C> {
+    // Nothing is printed at first.
+    pub fn new(heap: Global, cluster: C) -> Play<C>
+        ensures { string_bytes result.out ≡ [] }
+    {
         Play {
             heap,
             cluster,

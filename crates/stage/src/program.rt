@@ -5,7 +5,7 @@ use std::rt::{Env, Files};
 use std::{env, fs, io};
 
 // A long play says how far it is each time that so many lines are done.
-const PROGRESS_LINES: u64 = 100_000;
+const PROGRESS_LINES: usize = 100_000;
 
 // In what a program differs from another one that plays.
 #[derive(Clone, Copy)]
@@ -67,17 +67,16 @@ impl Program<'_> {
         let heap = rt.alloc();
         let mut printer = BufWriter::new(heap, io::writer(rt))?;
         let mut play = Play::new(heap, cluster);
-        let mut number = 0u64;
-        for line in BufReader::new(heap, input)?.split(heap, b'\n') {
-            play.line(number, line?.as_slice())?;
+        for (number, line) in BufReader::new(heap, input)?.split(heap, b'\n').enumerate() {
+            play.line(number as u64, line?.as_slice())?;
             printer.write_all(play.out.as_bytes())?;
             play.out.clear();
             if self.at_once {
                 printer.flush()?;
             }
-            number = number.saturating_add(1);
-            if self.progress && number % PROGRESS_LINES == 0 {
-                eprintln!(rt; "cluster: {number} lines")?;
+            let lines = number.saturating_add(1);
+            if self.progress && lines % PROGRESS_LINES == 0 {
+                eprintln!(rt; "cluster: {lines} lines")?;
             }
         }
         printer.flush()
