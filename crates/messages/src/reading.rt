@@ -9,10 +9,8 @@ ghost use Rattle.wire.specs.Said.{answer as answer_in, event as event_in, put_of
 
 use std::alloc::{AllocError, Global};
 use text::event::{Answer, Event, Put};
-use wire::answer::{Answer as AnswerBytes, Next, PutsBytes};
+use wire::answer::{Answer as AnswerBytes, PutsBytes};
 use wire::event::{ClockBytes, Event as EventBytes, PutBytes};
-use wire::number::number;
-use wire::parts::span;
 
 // The event that bytes are, or none.
 pub fn read_event(heap: Global, bytes: &[u8]) -> Result<Option<Event>, AllocError>
@@ -81,17 +79,13 @@ fn puts_of(heap: Global, puts: PutsBytes<'_>) -> Result<Option<Vec<Put>>, AllocE
     ensures { IfOk result (λ o. option_map (λ v. map put_meant v.items) o ≡ puts_in puts.entry.bytes.now) }
 {
     let mut all = Vec::new(heap);
-    let mut left = puts;
-    while let Some(next) = left.next() {
-        match next {
-            Next::End => return Ok(Some(all)),
-            Next::More { put, rest } => {
-                all.push(put_of(heap, put)?)?;
-                left = rest;
-            }
-        }
+    for put in puts {
+        let Ok(put) = put else {
+            return Ok(None);
+        };
+        all.push(put_of(heap, put)?)?;
     }
-    Ok(None)
+    Ok(Some(all))
 }
 
 fn put_of(heap: Global, put: PutBytes<'_>) -> Result<Put, AllocError>
@@ -111,12 +105,8 @@ fn put_of(heap: Global, put: PutBytes<'_>) -> Result<Put, AllocError>
 fn counts_of(heap: Global, clock: ClockBytes<'_>) -> Result<Vec<u64>, AllocError>
     ensures { IfOk result (λ v. v.items ≡ clock_in clock.entry.bytes.now) }
 {
-    let bytes = clock.bytes;
     let mut counts = Vec::new(heap);
-    for i in 0..span(bytes) / 9 {
-        let Some(n) = number(bytes.split_at(9 * i + 1).1) else {
-            unreachable()
-        };
+    for n in clock {
         counts.push(n)?;
     }
     Ok(counts)
