@@ -1,7 +1,6 @@
 -- What a text in several parts is read as, by what its parts are read as.
-use Rattle.std.proofs.Common.{◌≡◌, ℕ, ◌<◌, List, [], ◌∷◌, ◌++◌, length, get_or, drop, Some, None, vec_items, decimal, Option, sym, refl, ap, ◌∙◌, subst, arith}
+use Rattle.std.proofs.Common.{◌≡◌, ℕ, List, ◌∷◌, ◌++◌, Some, None, vec_items, decimal, Option, refl, ◌∙◌, subst, arith}
 use Rattle.std.specs.Option.{option_map}
-use Rattle.std.specs.List.{AllByRecursion}
 use Rattle.text.specs.Printed.{put_text}
 use Rattle.text.specs.Event.{Put}
 use Rattle.words.specs.Text.{Bytes, Reads, Word, Words, numbers_text, value_text}
@@ -24,9 +23,6 @@ module _ {A : Type 0} (text : A → List ℕ) (Can : A → Type 0) (w : List ℕ
   pub none_is : (o : Option A) → o ≡ None → Reads text Can w o → Reads text Can w None
   none_is o e h = subst (λ x. Reads text Can w x) e h
 
-  pub one_is : (o : Option A) (v : A) → o ≡ Some v → Reads text Can w o → Reads text Can w (Some v)
-  one_is o v e h = subst (λ x. Reads text Can w x) e h
-
 -- a number and what follows a space
 module _ {B : Type 0} (text : B → List ℕ) (Can : B → Type 0) (all : ℕ × B → List ℕ) (is : (n : ℕ) (b : B) → all (n, b) ≡ decimal n ++ 32 ∷ text b) (w : List ℕ) where
   abbrev Both : ℕ × B → Type 0
@@ -44,9 +40,6 @@ module _ {B : Type 0} (text : B → List ℕ) (Can : B → Type 0) (all : ℕ ×
 
     pub pair_no_rest : Reads text Can rest None → Reads all Both w None
     pair_no_rest none x can e = none x.1 can.1 (parts x can e).1
-
-    pub pair_read : (n : ℕ) (b : B) → Reads decimal Word word (Some n) → Reads text Can rest (Some b) → Reads all Both w (Some (n, b))
-    pair_read n b x y = ((x.0, y.0), cut.whole ∙ ap (λ t. t ++ 32 ∷ rest) x.1 ∙ ap (λ t. decimal n ++ 32 ∷ t) y.1 ∙ sym (is n b))
 
 -- a put: a number, a value, and at least one number, with spaces between
 put_rest : Put → List ℕ
@@ -81,27 +74,3 @@ module _ (w : List ℕ) where
 
       pub put_no_numbers : Reads numbers_text Words more None → Reads put_text CanPut w None
       put_no_numbers none p can e = none (p.from ∷ vec_items p.seen) ((can.2, can.3), omega arith) (value_parts p can e).1
-
-      pub put_read : (p : Put) (ns : List ℕ) → Reads decimal Word word (Some p.key) → Reads value_text Bytes vword (Some (vec_items p.value)) → Reads numbers_text Words more (Some ns) → p.from ∷ vec_items p.seen ≡ ns → Reads put_text CanPut w (Some p)
-      unfolding put_rest
-      put_read p ns x y z e =
-          let all : AllByRecursion Word (p.from ∷ vec_items p.seen) = subst (AllByRecursion Word) (sym e) z.0.0 in
-          ((x.0, y.0, all.0, all.1), whole)
-        where
-          whole : w ≡ put_text p
-          whole =
-              cut.whole ∙ ap (λ t. t ++ 32 ∷ rest) x.1 ∙ ap (λ t. decimal p.key ++ 32 ∷ t) (vcut.whole ∙ ap (λ t. t ++ 32 ∷ more) y.1 ∙ ap (λ t. value_text (vec_items p.value) ++ 32 ∷ t) (z.1 ∙ ap numbers_text (sym e))) ∙ sym (put_is p)
-
--- the first of some numbers, and those behind it
-pub first_removed : (ns : List ℕ) (n : ℕ) → 0 < length ns → n ≡ get_or ns 0 n → n ∷ drop 1 ns ≡ ns
-first_removed [] n h e = absurd (omega arith)
-first_removed (m ∷ ns) n h e = ap (λ x. x ∷ ns) e
-
--- four numbers
-pub four_of : (ns : List ℕ) (a b c d : ℕ) → length ns ≡ 4 → a ≡ get_or ns 0 a → b ≡ get_or ns 1 b → c ≡ get_or ns 2 c → d ≡ get_or ns 3 d → ns ≡ a ∷ b ∷ c ∷ d ∷ []
-four_of [] a b c d h p q r s = absurd (omega arith)
-four_of (x ∷ []) a b c d h p q r s = absurd (omega arith)
-four_of (x ∷ y ∷ []) a b c d h p q r s = absurd (omega arith)
-four_of (x ∷ y ∷ z ∷ []) a b c d h p q r s = absurd (omega arith)
-four_of (x ∷ y ∷ z ∷ t ∷ []) a b c d h p q r s = λ i. sym p i ∷ sym q i ∷ sym r i ∷ sym s i ∷ []
-four_of (x ∷ y ∷ z ∷ t ∷ u ∷ ns) a b c d h p q r s = absurd (omega arith)

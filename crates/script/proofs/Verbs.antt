@@ -1,5 +1,5 @@
 -- What a text is read as, by its first word.
-use Rattle.std.proofs.Common.{◌≡◌, ℕ, Bool, true, false, not, ◌&&◌, eqb, List, [], ◌∷◌, ◌++◌, get_or, vec_items, codes, decimal, Vec, sym, refl, ap, ◌∙◌, arith, eq-eqb}
+use Rattle.std.proofs.Common.{◌≡◌, ℕ, Bool, true, false, not, ◌&&◌, eqb, List, [], ◌∷◌, get_or, vec_items, codes, decimal, Vec, sym, refl, ap, ◌∙◌, arith, eq-eqb}
 use borrow.Author.Tests.{clash}
 use Rattle.std.proofs.lemmas.Fmt.{decimal_nonempty, digits_decimal}
 use Rattle.std.proofs.lemmas.Slice.Eq.{bytes_eq-Decides}
@@ -37,10 +37,6 @@ word_of (b ∷ bs) h = let t = both (eqb b 32) (spaceless bs) h in (λ e. clash 
 pub other_word : (w a b : List ℕ) → bytes_eq a b ≡ false → w ≡ a → w ≡ b → ⊥
 other_word w a b h p q = clash (sym h ∙ (bytes_eq-Decides a b).1 (sym p ∙ q))
 
--- a text by its parts
-pub verb_text : (text verb rest a b : List ℕ) → Cut text verb rest → verb ≡ a → rest ≡ b → text ≡ a ++ 32 ∷ b
-verb_text text verb rest a b cut e f = cut.whole ∙ ap (λ t. t ++ 32 ∷ rest) e ∙ ap (λ t. a ++ 32 ∷ t) f
-
 -- EVENTS, without their replica
 module _ (text verb rest : List ℕ) (cut : Cut text verb rest) where
   -- no event, if none has this verb and this rest
@@ -57,14 +53,6 @@ module _ (text verb rest : List ℕ) (cut : Cut text verb rest) where
   event_none put get came has (Has j c) can e = let p = cut_parts text verb rest (codes "has") (numbers_text (j ∷ vec_items c)) cut (word_of (codes "has") refl) e in has j c can p.0 p.1
   event_none put get came has Tell can e = has_space verb rest (codes "tell") (word_of (codes "tell") refl) (sym e ∙ cut.whole)
 
--- without a space there is but one event
-pub event_uncut : (text : List ℕ) → NoSpace text → (text ≡ codes "tell" → ⊥) → (x : Event) → CanEvent x → text ≡ event_words x → ⊥
-event_uncut text s other (Put' k v) can e = has_space (codes "put") (keyed (k, v)) text s e
-event_uncut text s other (Get k) can e = has_space (codes "get") (decimal k) text s e
-event_uncut text s other (Came p) can e = has_space (codes "came") (put_text p) text s e
-event_uncut text s other (Has j c) can e = has_space (codes "has") (numbers_text (j ∷ vec_items c)) text s e
-event_uncut text s other Tell can e = other e
-
 -- WHAT IS DONE AT A REPLICA: no event, and none of the others
 module _ (text : List ℕ) (event : (x : Event) → CanEvent x → text ≡ event_words x → ⊥) where
   pub deed_none : (verb rest : List ℕ) → Cut text verb rest
@@ -77,12 +65,6 @@ module _ (text : List ℕ) (event : (x : Event) → CanEvent x → text ≡ even
   deed_none verb rest cut bytes from asks (Bytes' b) can e = let p = cut_parts text verb rest (codes "bytes") (value_text (vec_items b)) cut (word_of (codes "bytes") refl) e in bytes b can p.0 p.1
   deed_none verb rest cut bytes from asks (From j n) can e = let p = cut_parts text verb rest (codes "from") (two_text (j, n)) cut (word_of (codes "from") refl) e in from j n can p.0 p.1
   deed_none verb rest cut bytes from asks (Asks j) can e = let p = cut_parts text verb rest (codes "asks") (decimal j) cut (word_of (codes "asks") refl) e in asks j can p.0 p.1
-
-  pub deed_uncut : NoSpace text → (d : Deed) → CanDeed d → text ≡ deed_words d → ⊥
-  deed_uncut s (Event' x) can e = event x can e
-  deed_uncut s (Bytes' b) can e = has_space (codes "bytes") (value_text (vec_items b)) text s e
-  deed_uncut s (From j n) can e = has_space (codes "from") (two_text (j, n)) text s e
-  deed_uncut s (Asks j) can e = has_space (codes "asks") (decimal j) text s e
 
 -- LINES
 pub open_is_no_number : (i : ℕ) → Word i → codes "open" ≡ decimal i → ⊥

@@ -1,5 +1,5 @@
 -- Hexadecimal digits: how long they are, and which stands where.
-use Rattle.std.proofs.Common.{◌≡◌, ℕ, ◌+◌, ◌-◌, ◌*◌, ◌^◌, ◌%◌, ◌<◌, false, List, [], ◌∷◌, ◌++◌, length, get_or, take, Some, None, Option, sym, refl, ap, ◌∙◌, append_assoc, append-nil, arith, length-append}
+use Rattle.std.proofs.Common.{◌≡◌, ℕ, ◌+◌, ◌-◌, ◌*◌, ◌^◌, ◌%◌, ◌<◌, false, List, [], ◌∷◌, ◌++◌, length, get_or, take, Some, None, Option, sym, refl, ap, ◌∙◌, append-nil, arith, length-append}
 use Rattle.std.proofs.lemmas.List.{take_more}
 use Rattle.std.proofs.lemmas.Fmt.{hex_byte}
 use Rattle.std.specs.Fmt.{digits as hexadecimal, format_spec, padded_integral}
@@ -34,12 +34,6 @@ two_of (x ∷ y ∷ z ∷ xs) e = absurd (omega arith)
 -- two digits before the others
 pub two_before : (ms two rest next all : List ℕ) → hex ms ++ rest ≡ all → rest ≡ two ++ next → length two ≡ 2 → hex ms ++ (get_or two 0 0 ∷ get_or two 1 0 ∷ next) ≡ all
 two_before ms two rest next all e f h = ap (λ t. hex ms ++ (t ++ next)) (sym (two_of two h)) ∙ ap (λ t. hex ms ++ t) (sym f) ∙ e
-
--- they are a byte's
-pub byte_read : (ms next all : List ℕ) (x y b : ℕ) → hex ms ++ (x ∷ y ∷ next) ≡ all → (x, y) ≡ digits b → hex (ms ++ b ∷ []) ++ next ≡ all
-byte_read ms next all x y b e d =
-    ap (λ t. t ++ next) (hex_push ms b) ∙ append_assoc (hex ms) ((digits b).0 ∷ (digits b).1 ∷ []) next
-    ∙ ap (λ (p : ℕ × ℕ). hex ms ++ (p.0 ∷ p.1 ∷ next)) (sym d) ∙ e
 
 -- all digits are read
 pub all_read : (ms rest all : List ℕ) → hex ms ++ rest ≡ all → length all % 2 ≡ 0 → length rest < 2 → all ≡ hex ms
