@@ -38,9 +38,11 @@ impl Cluster for Refusing {
     // Bytes that are no event are refused as such.
     fn bytes(&mut self, replica: u64, bytes: &[u8]) -> io::Result<Answer> {
         if replica < self.replicas
-            && let Err(refusal) = read_event(bytes)
+            && let Err(garbled) = read_event(bytes)
         {
-            return Ok(Answer::Refused { refusal });
+            return Ok(Answer::Refused {
+                refusal: garbled.into(),
+            });
         }
         Ok(REFUSED)
     }

@@ -6,9 +6,9 @@ mod tests {
     use endpoint::{ANSWER_MOST, call};
     use memory::{Limits, open};
     use std::test::Fail;
-    use wire::answer::{Answer, Next};
+    use wire::answer::Answer;
     use wire::answers::read_answer;
-    use wire::event::{Body, PutBytes};
+    use wire::event::PutBytes;
 
     // Two replicas, one key, a log of one, one that may wait.
     const SMALL: Limits = Limits {
@@ -62,13 +62,12 @@ mod tests {
         read_answer(&out[..len])
     }
 
-    // The number of a refusal, 0 for none.
-    fn refusal(mem: &mut [u64], event: &[u8]) -> u64 {
+    // The number of a refusal, or none; an error, if there is no answer.
+    fn refusal(mem: &mut [u64], event: &[u8]) -> Result<Option<u64>, Fail> {
         let mut out = [9; ANSWER_MOST];
-        match answer(mem, event, &mut out) {
-            Some(Answer::Refused { refusal }) => refusal.number,
-            Some(_) => 0,
-            None => 9,
+        match answer(mem, event, &mut out).ok_or("no answer")? {
+            Answer::Refused { refusal } => Ok(Some(refusal.number)),
+            _ => Ok(None),
         }
     }
 
@@ -85,8 +84,7 @@ mod tests {
 
     // A put of this replica, with this only byte.
     fn is_put(put: PutBytes<'_>, from: u64, byte: u8) -> bool {
-        let Body::Text { key: _, value } = put.body;
-        put.from == from && value == [byte].as_slice()
+        put.from == from && put.value == [byte].as_slice()
     }
 
     // What stands at key 0.
@@ -99,17 +97,18 @@ mod tests {
     }
 
     #[test]
-    fn ready_is_taken_however_full_all_is(rt: HostRuntime) {
+    fn ready_is_taken_however_full_all_is(rt: HostRuntime) -> Result<(), Fail> {
         let mut mem = [0; 608];
         assert!(rt; open(&mut mem, SMALL, 0).is_ok());
-        assert!(rt; refusal(&mut mem, &put(7)) == 0);
-        assert!(rt; refusal(&mut mem, &put(8)) == 4);
-        assert!(rt; refusal(&mut mem, &came(1, 0, 1, 5)) == 0);
-        assert!(rt; refusal(&mut mem, &came(1, 0, 2, 6)) == 5);
-        assert!(rt; refusal(&mut mem, &came(0, 1, 0, 6)) == 3);
+        assert!(rt; refusal(&mut mem, &put(7))? == None);
+        assert!(rt; refusal(&mut mem, &put(8))? == Some(4));
+        assert!(rt; refusal(&mut mem, &came(1, 0, 1, 5))? == None);
+        assert!(rt; refusal(&mut mem, &came(1, 0, 2, 6))? == Some(5));
+        assert!(rt; refusal(&mut mem, &came(0, 1, 0, 6))? == Some(3));
         assert!(rt; clock_is(&mut mem, 1, 0) && shows(&mut mem, 0, 7));
-        assert!(rt; refusal(&mut mem, &came(1, 0, 0, 4)) == 0);
+        assert!(rt; refusal(&mut mem, &came(1, 0, 0, 4))? == None);
         assert!(rt; clock_is(&mut mem, 1, 2) && shows(&mut mem, 1, 5));
+        Ok(())
     }
 
     // The only put of an answer is one of this replica, with this only byte.
@@ -118,36 +117,34 @@ mod tests {
         let Some(Answer::Puts { puts }) = answer(mem, event, &mut out) else {
             return false;
         };
-        let Some(Next::More { put, rest }) = puts.next() else {
+        let mut puts = puts.into_iter();
+        let Some(Ok(put)) = puts.next() else {
             return false;
         };
-        match rest.next() {
-            Some(Next::End) => is_put(put, from, byte),
-            _ => false,
-        }
+        puts.next().is_none() && is_put(put, from, byte)
     }
 
     #[test]
-    fn asked_until_the_other_has_it(rt: HostRuntime) {
+    fn asked_until_the_other_has_it(rt: HostRuntime) -> Result<(), Fail> {
         let mut mem = [0; 608];
         assert!(rt; open(&mut mem, SMALL, 0).is_ok());
         assert!(rt; only_put(&mut mem, &put(7), 0, 7));
         assert!(rt; only_put(&mut mem, &has(1, 0, 0), 0, 7));
-        assert!(rt; refusal(&mut mem, &has(1, 2, 0)) == 3);
-        assert!(rt; refusal(&mut mem, &put(8)) == 4);
-        assert!(rt; refusal(&mut mem, &has(1, 1, 0)) == 0);
-        assert!(rt; refusal(&mut mem, &put(8)) == 0);
+        assert!(rt; refusal(&mut mem, &has(1, 2, 0))? == Some(3));
+        assert!(rt; refusal(&mut mem, &put(8))? == Some(4));
+        assert!(rt; refusal(&mut mem, &has(1, 1, 0))? == None);
+        assert!(rt; refusal(&mut mem, &put(8))? == None);
         assert!(rt; clock_is(&mut mem, 2, 0) && shows(&mut mem, 0, 8));
+        Ok(())
     }
 
     #[test]
-    fn memory_of_no_replica(rt: HostRuntime) {
+    fn memory_of_no_replica(rt: HostRuntime) -> Result<(), Fail> {
         let mut mem = [7; 600];
-        assert!(rt; refusal(&mut mem, &TELL) == 2);
-        assert!(rt; refusal(&mut [], &TELL) == 2);
-        for x in mem {
-            assert!(rt; x == 7);
-        }
+        assert!(rt; refusal(&mut mem, &TELL)? == Some(2));
+        assert!(rt; refusal(&mut [], &TELL)? == Some(2));
+        assert!(rt; mem.iter().all(|x| *x == 7));
+        Ok(())
     }
 
     #[test]
