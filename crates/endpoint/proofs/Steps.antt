@@ -17,10 +17,9 @@ use Rattle.calls.specs.Answered.{AllSupported, code_answer, number_of, place_of}
 use Rattle.calls.specs.Entered.{Enters}
 use Rattle.calls.specs.declared.Reason.{Reason}
 use Rattle.calls.specs.declared.Reason.TheVariants.{OutOfRange}
-use Rattle.calls.proofs.Enters.{same_error}
 use Rattle.calls.proofs.Said.{refused_said}
 use Rattle.replies.specs.Written.{Writes}
-use Rattle.endpoint.specs.Call.{Answered, Calls, Does, Happens}
+use Rattle.endpoint.specs.Call.{Answered, Calls, Happens}
 
 -- what is refused leaves all as it was
 pub refuses : (m s : List ℕ) (w : Reason) → ((l : Limits) (r : Replica) (rest : List ℕ) → AllSupported l → Valid l r → m ≡ encode l r ++ rest → Err w ≡ code_answer l r (read s)) →

@@ -1,18 +1,16 @@
 -- A reply, put by put.
-use Rattle.std.proofs.Common.{◌≡◌, Ok, true, ℕ, zero, suc, ◌+◌, ◌≤◌, List, [], ◌∷◌, ◌++◌, reverse, length, take, Some, None, Option, sym, refl, ap, ◌∙◌, inl, inr, subst, arith}
+use Rattle.std.proofs.Common.{◌≡◌, Ok, true, ℕ, zero, suc, ◌+◌, ◌≤◌, List, [], ◌∷◌, ◌++◌, reverse, take, Some, None, Option, sym, refl, ap, ◌∙◌, inl, inr, arith}
 use Rattle.std.specs.List.{flat_map}
 use Rattle.std.proofs.lemmas.List.{length-take, take_all, flat_map_more}
 use Rattle.model.specs.Limits.{Limits, reply_most}
 use Rattle.model.specs.Clock.{Clock}
 use Rattle.model.specs.Delivery.{Delivery, lacking, reply}
 use Rattle.model.specs.Program.{readable}
-use Rattle.model.specs.Replica.{Replica, Event, put, get, came, has, tell, garbled, puts, in_range, refusal, says, answer}
-use Rattle.model.proofs.Replica.{answer_accepted}
+use Rattle.model.specs.Replica.{Replica, Event, in_range, answer}
 use Rattle.model.proofs.Steps.{in_reply}
 use Rattle.model.specs.Put.{Put, Body}
 use Rattle.puts.specs.Values.{Put as CodePut}
-use Rattle.puts.specs.Values.{code_clock, code_put}
-use Rattle.puts.specs.declared.Clock.{Clock as CodeClock}
+use Rattle.puts.specs.Values.{code_put}
 use Rattle.puts.specs.Words.{code_slot}
 use Rattle.memory.specs.Valid.{Sound, Valid}
 use Rattle.logs.proofs.Logs.{in_at}
@@ -26,9 +24,6 @@ use Rattle.model.specs.Program.{readable}
 use Rattle.model.specs.Replica.{Replica, Event, in_range, answer}
 use Rattle.wire.specs.Bytes.{write_answer}
 use Rattle.calls.proofs.Acts.{back}
-use Rattle.wire_out.specs.declared.writer.Writer.{Writer}
-use Rattle.wire_out.specs.Written.{Adds, Wrote}
-use Rattle.replies.specs.Written.{Writes, answer_most}
 
 -- the bytes of the first i of some
 abbrev pub items : ℕ → List (Put Body) → List ℕ

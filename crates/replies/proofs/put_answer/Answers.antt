@@ -1,6 +1,5 @@
-use Rattle.std.proofs.Common.{Ok, sym, ap, ◌∙◌, refl}
+use Rattle.std.proofs.Common.{Ok, sym, ap, ◌∙◌}
 use Rattle.wire.specs.Bytes.{write_answer, write_puts}
-use Rattle.model.specs.Replica.{puts}
 use Rattle.calls.proofs.Said.{replied_to}
 use Rattle.replies.proofs.Replies.{means}
 use Rattle.replies.proofs.put_answer.Goals as goal

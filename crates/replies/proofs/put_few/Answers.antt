@@ -1,6 +1,6 @@
-use Rattle.std.proofs.Common.{◌≡◌, ◌≤◌, [], ◌∷◌, ◌++◌, length, rules, sym, refl, ap, ◌∙◌, subst, arith, append-nil}
+use Rattle.std.proofs.Common.{◌≤◌, [], ◌∷◌, ◌++◌, length, rules, sym, refl, ap, ◌∙◌, subst, arith, append-nil}
 use Rattle.std.specs.List.{flat_map}
-use Rattle.wire.specs.Bytes.{write_item, write_puts}
+use Rattle.wire.specs.Bytes.{write_item}
 use Rattle.wire.specs.Kinds.{answer_number}
 use Rattle.wire_out.specs.Written.{Adds}
 use Rattle.wire_out.proofs.Overs.{adds_as, adds_nothing, then_adds}
