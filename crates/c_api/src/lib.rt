@@ -1,4 +1,4 @@
-// A replica for C and Rust: numbers and lent slices in, one signed number out.
+// A replica for C and Rust: numbers and lent slices in, one signed number out, since C has no `Option`.
 #![tactic(auto)]
 
 ghost use Rattle.c_api.specs.Signed.{CallGives, OpenGives};

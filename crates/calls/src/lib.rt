@@ -19,7 +19,7 @@ use delivery::{deliver, had, nothing_new, ready, stamp, take_own};
 use logs::{Place, Replica};
 use memory::limits_of;
 use puts::event::Refusal;
-use puts::{Clock, Put, Text};
+use puts::{COUNT_BOUND, Clock, Put, Text};
 use ranges::{Checked, in_range};
 use wire::garbled::Garbled;
 use wire::read::read_event;
@@ -82,9 +82,6 @@ pub enum Answer<R> {
     Value { put: Option<Put> },
     Clock { clock: Clock },
 }
-
-// Each count, and the number of a put, is below this.
-const COUNT_BOUND: u64 = 4294967296;
 
 // The event that the bytes are at the replica whose memory this is, with the place of its parts there; or why it is refused before anything is read but the header.
 pub fn enter(mem: &[u64], bytes: &[u8]) -> Result<(Place, Checked), Reason>

@@ -14,7 +14,7 @@ const PROGRAM: Program<'static> = Program {
     progress: false,
 };
 
-// What went wrong was said where it happened.
+// What went wrong was said where it happened; an error from `main` would be said again.
 fn main(rt: HostRuntime) -> ExitCode {
     match PROGRAM.run(&rt, Refusing::new()) {
         Ok(()) => ExitCode::SUCCESS,

@@ -3,8 +3,9 @@
 
 ghost use Rattle.std.specs.Prelude.{◌≡◌, ◌≤◌, length, take, IfSome};
 ghost use Rattle.endpoint.specs.Call.{Answered, Called, Happens};
-ghost use Rattle.endpoint.specs.Running.{Runs, all_events};
+ghost use Rattle.endpoint.specs.Running.{Runs};
 ghost use Rattle.endpoint.specs.Theorems.{EveryLifeRight, InEveryLife, LivesConverge, LivesHappen};
+ghost use Rattle.memory.specs.Running.{all_events};
 ghost use Rattle.model.specs.Program.{AnswersRight, MemoryBounded, Program, RefusalKeepsMemory};
 ghost use Rattle.replies.specs.Written.{answer_most};
 

@@ -4,3 +4,4 @@ pub mod Sound
 pub mod Faithful
 pub mod Starts
 pub mod State
+pub mod Running

@@ -3,3 +3,4 @@ pub mod Image
 pub mod Valid
 pub mod Laws
 pub mod State
+pub mod Running

@@ -26,7 +26,7 @@ pub struct Limits {
     pub waiting: usize,
 }
 
-// A region of slots: the first, and how many.
+// A region of slots: the first, and how many. No slices: the memory is one lent slice, whose every word the contracts name.
 #[derive(Clone, Copy)]
 pub struct Region {
     pub base: usize,

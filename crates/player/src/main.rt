@@ -25,7 +25,7 @@ fn run(rt: &HostRuntime) -> io::Result<()> {
     program.run(rt, Played::new(rt.alloc())?)
 }
 
-// What went wrong was said where it happened.
+// What went wrong was said where it happened; an error from `main` would be said again.
 fn main(rt: HostRuntime) -> ExitCode {
     match run(&rt) {
         Ok(()) => ExitCode::SUCCESS,

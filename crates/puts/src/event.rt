@@ -19,7 +19,7 @@ pub enum Event<C, V> {
     Tell,
 }
 
-// Why an event is refused, and at what place of its bytes.
+// Why an event is refused, and at what place of its bytes. A number and no enum: an answer that is read from bytes may say any, and each is read back as it was written.
 #[derive(Clone, Copy)]
 pub struct Refusal {
     pub number: u64,

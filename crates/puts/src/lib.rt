@@ -20,6 +20,9 @@ pub const COUNTS: usize = 16;
 
 pub const VALUE_MOST: usize = 64;
 
+// Each count, and the number of a put, is below this.
+pub const COUNT_BOUND: u64 = 4294967296;
+
 #[derive(Clone, Copy)]
 pub struct Clock {
     pub counts: [u64; COUNTS],

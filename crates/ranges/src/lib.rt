@@ -13,11 +13,8 @@ ghost use Rattle.wire.specs.Said.{event as event_in, put_of};
 ghost use Rattle.std.specs.Prelude.{◌≡◌, nat_lt};
 
 use memory::Limits;
-use puts::{COUNTS, Clock, Put, Text};
+use puts::{COUNT_BOUND, Clock, Put, Text};
 use wire::event::{ClockBytes, Event, PutBytes};
-
-// Each count, and the number of a put, is below this.
-const COUNT_BOUND: u64 = 4294967296;
 
 // An event whose numbers are in range.
 pub type Checked = puts::event::Event<Clock, Text>;

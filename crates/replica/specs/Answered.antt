@@ -1,11 +1,8 @@
--- What an answer of the code says, and what an event does to a replica in its memory. Definitions only.
-use Rattle.std.specs.Prelude.{◌≡◌, ℕ, List, [], ◌∷◌, ◌++◌, Some, None, Option, Result}
-use Rattle.model.specs.Limits.{Limits}
+-- What an answer of the code says. Definitions only.
+use Rattle.std.specs.Prelude.{ℕ, List, [], ◌∷◌, Some, None, Option, Result}
 use Rattle.model.specs.Put as model
-use Rattle.model.specs.Replica.{Replica, Event, Answer as ModelAnswer, answer, after}
+use Rattle.model.specs.Replica.{Answer as ModelAnswer}
 use Rattle.puts.specs.Values.{Put}
-use Rattle.memory.specs.Image.{encode}
-use Rattle.memory.specs.Valid.{Valid}
 use Rattle.calls.specs.Answered.{one_put, says_with}
 use Rattle.calls.specs.declared.Answer.{Answer as AnswerOf}
 use Rattle.calls.specs.declared.Reason.{Reason}
@@ -23,9 +20,3 @@ some_puts n (None ∷ ps) = some_puts n ps
 -- the number and the values of each answer, for n replicas
 abbrev pub says_in : ℕ → Result Answer Reason → ModelAnswer
 says_in n a = says_with (some_puts n) n a
-
--- an event happened in memory of which the replica takes the first words: they are the image of the state after it, which is valid, the rest stays, and the answer is the model's
-pub record Stepped (l : Limits) (r : Replica) (e : Event) (rest m : List ℕ) (a : ModelAnswer) : Type 0 where
-  pub valid : Valid l (after l r e)
-  pub mem : m ≡ encode l (after l r e) ++ rest
-  pub says : a ≡ answer l r e

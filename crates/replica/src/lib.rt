@@ -2,6 +2,7 @@
 #![tactic(auto)]
 
 ghost use Rattle.logs.specs.State.{Held, Holds, Laid};
+ghost use Rattle.memory.specs.Running.{all_events};
 ghost use Rattle.model.specs.Clock.{Clock as ModelClock};
 ghost use Rattle.model.specs.Delivery.{reply as reply_of};
 ghost use Rattle.model.specs.Limits.{Limits as ModelLimits};
@@ -12,7 +13,7 @@ ghost use Rattle.calls.specs.Entered.{Comes};
 ghost use Rattle.calls.specs.Answered.{AllSupported, code_answer};
 ghost use Rattle.std.specs.Prelude.{◌≡◌, true, length, Ok};
 ghost use Rattle.replica.specs.Answered.{says_in, some_puts};
-ghost use Rattle.replica.specs.Running.{Called, Runs, all_events};
+ghost use Rattle.replica.specs.Running.{Called, Runs};
 
 use calls::{answer_to, apply, enter};
 pub use calls::{Answer, Reason};

@@ -23,7 +23,7 @@ use wire::kind::AnswerKind;
 use wire_out::answer::Put as Sent;
 use wire_out::writer::Writer;
 
-// The longest answer: eight puts, each with sixteen counts and a value of sixty-four bytes.
+// The longest answer: eight puts, each with sixteen counts and a value of sixty-four bytes. The slice is asked to have room for it, and is no array: of a writer over an array's slice the check does not know what it left there.
 pub const ANSWER_MOST: usize = 1882;
 
 // A put with as many counts as there are replicas.

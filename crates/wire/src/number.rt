@@ -15,8 +15,6 @@ pub(crate) fn rest(bytes: &[u8], at: usize) -> &[u8]
 pub fn number(bytes: &[u8]) -> Option<u64>
     ensures { MatchOption result (length bytes.now < 8) (λ n. (8 ≤ length bytes.now) × (n ≡ number_in bytes.now)) }
 {
-    let [a, b, c, d, e, f, g, h, ..] = bytes else {
-        return None;
-    };
-    Some(u64::from_le_bytes([*a, *b, *c, *d, *e, *f, *g, *h]))
+    let eight = bytes.first_chunk()?;
+    Some(u64::from_le_bytes(*eight))
 }
