@@ -16,7 +16,7 @@ const PROGRAM: Program<'static> = Program {
 
 // What went wrong was said where it happened; an error from `main` would be said again.
 fn main(rt: HostRuntime) -> ExitCode {
-    match PROGRAM.run(&rt, Refusing::new()) {
+    match PROGRAM.run::<Refusing, HostRuntime>(&rt) {
         Ok(()) => ExitCode::SUCCESS,
         Err(_) => ExitCode::FAILURE,
     }

@@ -1,6 +1,7 @@
 // A cluster that supports no event yet.
 use memory::Limits;
 use stage::play::{Cluster, OpenError, REFUSED};
+use std::alloc::Global;
 use std::io;
 use text::event::{Answer, Event};
 use wire::read::read_event;
@@ -11,14 +12,11 @@ pub struct Refusing {
     replicas: u64,
 }
 
-impl Refusing {
-    // Nothing is open at first.
-    pub fn new() -> Refusing {
-        Refusing { replicas: 0 }
-    }
-}
-
 impl Cluster for Refusing {
+    fn none(_heap: Global) -> io::Result<Refusing> {
+        Ok(Refusing { replicas: 0 })
+    }
+
     fn replicas(&self) -> u64 {
         self.replicas
     }

@@ -8,7 +8,6 @@ mod usage;
 
 use played::Played;
 use stage::program::Program;
-use std::alloc::AllocError;
 use std::io;
 use std::io::IsTerminal;
 use std::process::ExitCode;
@@ -22,7 +21,7 @@ fn run(rt: &HostRuntime) -> io::Result<()> {
         at_once: rt.stdout().is_terminal(),
         progress: rt.stderr().is_terminal(),
     };
-    program.run(rt, Played::new(rt.alloc())?)
+    program.run::<Played, HostRuntime>(rt)
 }
 
 // What went wrong was said where it happened; an error from `main` would be said again.

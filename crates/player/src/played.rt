@@ -5,7 +5,7 @@ use memory::Limits;
 use messages::reading::read_event;
 use messages::writing::event_bytes;
 use stage::play::{Cluster, OpenError};
-use std::alloc::{AllocError, Global};
+use std::alloc::Global;
 use std::io;
 use text::event::{Answer, Event};
 
@@ -16,18 +16,15 @@ pub struct Played {
     made: Made,
 }
 
-impl Played {
-    // Nothing is open at first.
-    pub fn new(heap: Global) -> Result<Played, AllocError> {
+impl Cluster for Played {
+    fn none(heap: Global) -> io::Result<Played> {
         Ok(Played {
             heap,
             replicas: Replicas::none(heap)?,
             made: Made::nothing(heap, 0)?,
         })
     }
-}
 
-impl Cluster for Played {
     fn replicas(&self) -> u64 {
         self.replicas.count()
     }

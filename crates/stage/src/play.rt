@@ -51,6 +51,9 @@ impl From<io::Error> for OpenError {
 
 // The replicas that are played.
 pub trait Cluster {
+    // None are open at first.
+    fn none(heap: Global) -> io::Result<Self>;
+
     // How many are open.
     fn replicas(&self) -> u64;
 

@@ -19,18 +19,17 @@ pub struct Program<'a> {
 }
 
 impl Program<'_> {
-    // Plays what the words after the program's name say.
-    pub fn run<R: Env + Files + Input + Print + Eprint + AllocGlobal, C: Cluster + Drop>(
+    // Plays what the words after the program's name say, at a cluster of which none are open.
+    pub fn run<C: Cluster + Drop, R: Env + Files + Input + Print + Eprint + AllocGlobal>(
         &self,
         rt: &R,
-        cluster: C,
     ) -> io::Result<()> {
         let mut words = env::args(rt)?.skip(1);
         let Some(word) = words.next() else {
             return report(
                 rt,
                 "standard input",
-                self.play_all(rt, cluster, rt.reader()),
+                self.play_all::<C, R, _>(rt, rt.reader()),
             );
         };
         if words.next().is_some() {
@@ -41,32 +40,26 @@ impl Program<'_> {
         if let (Some(help), "--help" | "-h") = (self.help, word.as_str()) {
             return rt.print(help);
         }
-        report(
-            rt,
-            word.as_str(),
-            self.play_file(rt, cluster, word.as_str()),
-        )
+        report(rt, word.as_str(), self.play_file::<C, R>(rt, word.as_str()))
     }
 
-    fn play_file<R: Files + Print + Eprint + AllocGlobal, C: Cluster + Drop>(
+    fn play_file<C: Cluster + Drop, R: Files + Print + Eprint + AllocGlobal>(
         &self,
         rt: &R,
-        cluster: C,
         path: &str,
     ) -> io::Result<()> {
-        self.play_all(rt, cluster, fs::open(rt, path)?)
+        self.play_all::<C, R, _>(rt, fs::open(rt, path)?)
     }
 
     // Plays all lines of `input`.
-    fn play_all<R: Print + Eprint + AllocGlobal, C: Cluster + Drop, I: Read + Drop>(
+    fn play_all<C: Cluster + Drop, R: Print + Eprint + AllocGlobal, I: Read + Drop>(
         &self,
         rt: &R,
-        cluster: C,
         input: I,
     ) -> io::Result<()> {
         let heap = rt.alloc();
         let mut printer = BufWriter::new(heap, io::writer(rt))?;
-        let mut play = Play::new(heap, cluster);
+        let mut play = Play::new(heap, C::none(heap)?);
         for (number, line) in BufReader::new(heap, input)?.split(heap, b'\n').enumerate() {
             play.line(number as u64, line?.as_slice())?;
             printer.write_all(play.out.as_bytes())?;
