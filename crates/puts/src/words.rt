@@ -69,7 +69,8 @@ pub fn write_put(part: &mut [u64], p: &Put)
 }
 
 // The put that the part holds, if it holds one.
-pub fn read_put(part: &[u64; SLOT]) -> Option<Put>
+pub fn read_put(part: &[u64]) -> Option<Put>
+    requires { length part.now ≡ slot_size }
     ensures { result ≡ if_put part.now (put_in part.now) }
 {
     if part[FORM] != PUT {
@@ -90,7 +91,8 @@ pub fn read_put(part: &[u64; SLOT]) -> Option<Put>
 }
 
 // Its head alone.
-pub fn read_head(part: &[u64; SLOT]) -> Option<Head>
+pub fn read_head(part: &[u64]) -> Option<Head>
+    requires { length part.now ≡ slot_size }
     ensures { result ≡ if_put part.now (head_in part.now) }
 {
     if part[FORM] != PUT {

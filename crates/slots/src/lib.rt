@@ -104,9 +104,11 @@ pub fn copy_slot(mem: &mut [u64], from: usize, to: usize)
 pub fn read_row(mem: &[u64], r: usize) -> Clock
     ensures { result.counts ≡ row_at r mem.now }
 {
-    Clock {
-        counts: row(mem, r).copied().unwrap_or([0; COUNTS]),
-    }
+    let counts = match row(mem, r) {
+        Some(words) => *words,
+        None => [0; COUNTS],
+    };
+    Clock { counts }
 }
 
 #[tactic(auto, using(crate::proofs::Rows::writes_row, crate::proofs::Rows::no_write, crate::proofs::Rows::row_missing))]
