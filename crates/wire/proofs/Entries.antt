@@ -21,7 +21,7 @@ count_at (suc i) s h =
     ap (λ n. number_in (drop n s)) (sym place) ∙ ap number_in (sym (drop-drop (9 * i + 1) 9 s)) ∙ count_at i (drop 9 s) (omega (arith, ap length more)) ∙ sym (ap (λ c. get_or c (suc i) 0) more)
 
 -- one more of them before the zeros
-filled_more : (c : List ℕ) (i : ℕ) → i < length c → i < 16 → set (take i c ++ replicate (16 - i) 0) i (get_or c i 0) ≡ take (i + 1) c ++ replicate (16 - (i + 1)) 0
+pub filled_more : (c : List ℕ) (i : ℕ) → i < length c → i < 16 → set (take i c ++ replicate (16 - i) 0) i (get_or c i 0) ≡ take (i + 1) c ++ replicate (16 - (i + 1)) 0
 filled_more c i h m =
     let left : 16 - i ≡ suc (16 - (i + 1)) = omega arith in
     let zs : List ℕ = replicate (16 - (i + 1)) 0 in
@@ -32,7 +32,7 @@ filled_more c i h m =
 
 -- the same for the first of those that are left
 pub filled_next :
-    (c r a : List ℕ) (i j k n : ℕ) → drop i c ≡ n ∷ r → j ≡ i → k ≡ i + 1 → length c ≤ 16 → a ≡ take i c ++ replicate (16 - i) 0 →
+    (c r a : List ℕ) (i j k n : ℕ) → drop i c ≡ n ∷ r → j ≡ i → k ≡ i + 1 → i < 16 → a ≡ take i c ++ replicate (16 - i) 0 →
     (drop k c ≡ r) × (k ≤ length c) × (set a j n ≡ take k c ++ replicate (16 - k) 0)
 filled_next c r a i j k n e g h m f =
     let less : i < length c = omega (arith, simp length-drop at (ap length e)) in
@@ -40,7 +40,7 @@ filled_next c r a i j k n e g h m f =
     let others : drop (i + 1) c ≡ r = sym (drop-drop 1 i c) ∙ ap (drop 1) e in (
       ap (λ l. drop l c) h ∙ others,
       omega arith,
-      (λ u. set (f u) (g u) (sym first u)) ∙ filled_more c i less (omega arith) ∙ sym (ap (λ l. take l c ++ replicate (16 - l) 0) h),
+      (λ u. set (f u) (g u) (sym first u)) ∙ filled_more c i less m ∙ sym (ap (λ l. take l c ++ replicate (16 - l) 0) h),
     )
 
 -- the next count, if there is one

@@ -65,14 +65,14 @@ abbrev pub Counted : Option (List ℕ) → ℕ → clock.Clock → Type 0
 Counted r n c = MatchOption r ((nat_le n 16 && length c == n) ≡ false) (λ a. (n ≤ 16) × (length c ≡ n) × (a ≡ c ++ replicate (16 - n) 0))
 
 -- ANSWERS: what comes next of some puts
-abbrev pub next : Result (Option (PutBytes × Bor (List ℕ))) NoPuts → Option answers.Next
+abbrev pub next : Result (Option (PutBytes × PutsBytes)) NoPuts → Option answers.Next
 next (Ok None) = Some answers.end
-next (Ok (Some p)) = Some (answers.more (put_of p.0) p.1.now)
+next (Ok (Some p)) = Some (answers.more (put_of p.0) p.1.bytes.now)
 next (Err e) = None
 
 -- the same of a put
-abbrev pub put_next : Result (PutBytes × Bor (List ℕ)) NoPuts → Option answers.Next
-put_next (Ok p) = Some (answers.more (put_of p.0) p.1.now)
+abbrev pub put_next : Result (PutBytes × PutsBytes) NoPuts → Option answers.Next
+put_next (Ok p) = Some (answers.more (put_of p.0) p.1.bytes.now)
 put_next (Err e) = None
 
 -- the bytes of the puts that are still to come; after the last, and after an error, an end

@@ -18,6 +18,15 @@ pub struct PutsBytes<'a> {
     pub bytes: &'a [u8],
 }
 
+impl<'a> PutsBytes<'a> {
+    // The next put and those after it, or the end.
+    pub fn next(self) -> Result<Option<(PutBytes<'a>, PutsBytes<'a>)>, NoPuts>
+        ensures { next result ≡ next_put_in self.entry.bytes.now }
+    {
+        next_put(self.bytes)
+    }
+}
+
 pub type Answer<'a> = event::Answer<ClockBytes<'a>, &'a [u8], PutsBytes<'a>>;
 
 // Bytes that are no puts.
@@ -33,7 +42,7 @@ impl fmt::Display for NoPuts {
 impl Error for NoPuts {}
 
 // The puts that are still to come: none after the last, and none after an error.
-#[derive(Drop)]
+#[derive(Clone, Drop)]
 pub struct Puts<'a> {
     left: Option<&'a [u8]>,
 }
@@ -51,7 +60,7 @@ impl<'a> Iterator for Puts<'a> {
         match next_put(bytes) {
             Ok(None) => None,
             Ok(Some((put, others))) => {
-                self.left = Some(others);
+                self.left = Some(others.bytes);
                 Some(Ok(put))
             }
             Err(e) => Some(Err(e)),
@@ -75,7 +84,7 @@ impl<'a> IntoIterator for PutsBytes<'a> {
 
 // The next put and what follows it, or the end.
 #[tactic(auto, unfolding(crate::specs::Answers::next_put))]
-fn next_put(bytes: &[u8]) -> Result<Option<(PutBytes<'_>, &[u8])>, NoPuts>
+fn next_put(bytes: &[u8]) -> Result<Option<(PutBytes<'_>, PutsBytes<'_>)>, NoPuts>
     ensures { next result ≡ next_put_in bytes.now }
 {
     match bytes {
@@ -89,10 +98,10 @@ fn next_put(bytes: &[u8]) -> Result<Option<(PutBytes<'_>, &[u8])>, NoPuts>
 }
 
 // The put of so many bytes, and those that follow.
-fn put_of(size: u64, bytes: &[u8]) -> Result<(PutBytes<'_>, &[u8]), NoPuts>
+fn put_of(size: u64, bytes: &[u8]) -> Result<(PutBytes<'_>, PutsBytes<'_>), NoPuts>
     ensures { put_next result ≡ framed size bytes.now }
 {
     let (put, after) = bytes.split_at_checked(size as usize).ok_or(NoPuts)?;
     let put = read_put(put).map_err(|_| NoPuts)?;
-    Ok((put, after))
+    Ok((put, PutsBytes { bytes: after }))
 }

@@ -61,13 +61,18 @@ impl ClockBytes<'_> {
     pub fn counts(self, many: usize) -> Option<[u64; COUNTS_MOST]>
         ensures { Counted result many (clock_in self.entry.bytes.now) }
     {
-        if many > COUNTS_MOST || self.how_many() != many {
+        if many > COUNTS_MOST {
             return None;
         }
         let mut counts = [0; COUNTS_MOST];
-        for (i, n) in self.into_iter().enumerate() {
-            counts[i] = n;
+        let mut found = 0;
+        for n in self {
+            if found == many {
+                return None;
+            }
+            counts[found] = n;
+            found += 1;
         }
-        Some(counts)
+        (found == many).then_some(counts)
     }
 }

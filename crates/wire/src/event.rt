@@ -11,4 +11,5 @@ pub type PutBytes<'a> = event::Put<ClockBytes<'a>, &'a [u8]>;
 
 pub type Event<'a> = event::Event<ClockBytes<'a>, &'a [u8]>;
 
+pub use crate::garbled::NO_EVENT;
 pub use puts::event::Refusal;

@@ -27,14 +27,6 @@ pub enum AnswerKind {
 pub struct UnknownKind(pub u8);
 
 impl EventKind {
-    const ALL: [EventKind; 5] = [
-        EventKind::Put,
-        EventKind::Get,
-        EventKind::Came,
-        EventKind::Has,
-        EventKind::Tell,
-    ];
-
     pub fn number(self) -> u8
         ensures { result ≡ event_number self }
     {
@@ -48,21 +40,18 @@ impl TryFrom<u8> for EventKind {
     ghost try_from_gives = { EventDecoded };
 
     fn try_from(number: u8) -> Result<EventKind, UnknownKind> {
-        EventKind::ALL
-            .into_iter()
-            .find(|kind| kind.number() == number)
-            .ok_or(UnknownKind(number))
+        match number {
+            0 => Ok(EventKind::Put),
+            1 => Ok(EventKind::Get),
+            2 => Ok(EventKind::Came),
+            3 => Ok(EventKind::Has),
+            4 => Ok(EventKind::Tell),
+            _ => Err(UnknownKind(number)),
+        }
     }
 }
 
 impl AnswerKind {
-    const ALL: [AnswerKind; 4] = [
-        AnswerKind::Refused,
-        AnswerKind::Puts,
-        AnswerKind::Value,
-        AnswerKind::Clock,
-    ];
-
     pub fn number(self) -> u8
         ensures { result ≡ answer_number self }
     {
@@ -76,10 +65,13 @@ impl TryFrom<u8> for AnswerKind {
     ghost try_from_gives = { AnswerDecoded };
 
     fn try_from(number: u8) -> Result<AnswerKind, UnknownKind> {
-        AnswerKind::ALL
-            .into_iter()
-            .find(|kind| kind.number() == number)
-            .ok_or(UnknownKind(number))
+        match number {
+            0 => Ok(AnswerKind::Refused),
+            1 => Ok(AnswerKind::Puts),
+            2 => Ok(AnswerKind::Value),
+            3 => Ok(AnswerKind::Clock),
+            _ => Err(UnknownKind(number)),
+        }
     }
 }
 

@@ -1,16 +1,17 @@
 // Answers, each written into a lent slice: none if there is no room, and then it is as before; else how many bytes.
-ghost use Rattle.std.specs.Prelude.{◌≡◌, [], ◌∷◌, map, length};
+ghost use Rattle.std.specs.Prelude.{◌≡◌, ◌+◌, ◌≤◌, [], ◌∷◌, map, length};
 ghost use Rattle.model.specs.Replica.{clock_is, puts as puts_of, refused, value as value_of};
 ghost use Rattle.wire.specs.Bytes.{write_answer as answer_written, write_item, write_puts as puts_written};
 ghost use Rattle.wire.specs.Kinds.{answer_number};
 ghost use Rattle.wire_out.specs.Said.{answer as answer_of, none_or_one, put_of};
-ghost use Rattle.wire_out.specs.Written.{Appended, Written, capped};
+ghost use Rattle.wire_out.specs.Written.{Appended, Written, Wrote, capped};
 
 use crate::answer::{Answer, Put};
 use crate::lengths::{clock_len, item_len, puts_len, value_len};
 use crate::writer::Writer;
 use wire::event::Refusal;
 use wire::kind::AnswerKind;
+use wire::mark::END;
 
 // How many bytes an answer takes; the largest number, if it takes more.
 pub fn answer_len(answer: Answer<'_>) -> usize
@@ -73,7 +74,10 @@ pub fn write_value(out: &mut [u8], put: Option<Put<'_>>) -> Option<usize>
 pub fn write_none(out: &mut [u8]) -> Option<usize>
     ensures { Written result out.old out.new (answer_written (value_of [])) }
 {
-    write_value(out, None)
+    let mut to = Writer { out, at: 0 };
+    to.room(2)?;
+    to.bytes(&[AnswerKind::Value.number(), END]);
+    Some(to.at)
 }
 
 pub fn write_one(out: &mut [u8], put: Put<'_>) -> Option<usize>
@@ -118,4 +122,14 @@ pub fn end_puts(out: &mut [u8], at: usize) -> Option<usize>
     to.room(1)?;
     to.end();
     Some(to.at)
+}
+
+// A put among others, where there is room.
+pub fn put_item(out: &mut [u8], at: usize, put: Put<'_>) -> usize
+    requires { at + length (write_item (put_of put)) ≤ length out.old }
+    ensures { Wrote result at out.old out.new (write_item (put_of put.entry)) }
+{
+    let mut to = Writer { out, at };
+    to.item(put);
+    to.at
 }

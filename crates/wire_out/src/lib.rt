@@ -5,5 +5,6 @@ pub mod answer;
 pub mod answers;
 pub mod event;
 pub mod lengths;
+pub mod part;
 pub mod theorems;
 pub mod writer;

@@ -80,7 +80,7 @@ impl Writer<'_> {
         ensures { Adds self.old self.new (write_clock counts.now []) }
     {
         self.counts(counts);
-        self.end();
+        self.bytes(&[END]);
     }
 
     // The form of a body, a key, and a value.
@@ -107,7 +107,7 @@ impl Writer<'_> {
         requires { HasRoom self.old (length (write_item (put_of put))) }
         ensures { Adds self.old self.new (write_item (put_of put.entry)) }
     {
-        self.mark();
+        self.bytes(&[NEXT]);
         self.number(put_len(put) as u64);
         self.put(put);
     }

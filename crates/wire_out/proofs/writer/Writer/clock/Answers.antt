@@ -7,4 +7,4 @@ pub counts-requires : goal.counts-requires
 counts-requires c = omega (arith, length_clock c.args.counts.now [])
 
 pub returns : goal.returns
-returns c = then_adds c.counts.ensures c.end.ensures
+returns c = then_adds c.counts.ensures c.bytes.ensures
