@@ -1,6 +1,5 @@
 -- A call over bytes and memory, before the event happens.
-use Rattle.std.proofs.Common.{◌≡◌, ℕ, true, false, ◌&&◌, Bool, Some, None, Option, Ok, Err, Result, sym, refl, ap, ◌∙◌, arith}
-use Rattle.std.specs.Option.{ok_or}
+use Rattle.std.proofs.Common.{◌≡◌, ℕ, true, false, ◌&&◌, Bool, Some, None, Option, Ok, Err, Result, sym, refl, ap, ◌∙◌, subst, arith}
 use Rattle.model.specs.Limits.{Limits}
 use Rattle.model.specs.Replica.{Replica, Event, garbled, legible, in_range, event_number, first_failing, place}
 use Rattle.memory.specs.Layout.{code_limits, model_limits, total}
@@ -11,7 +10,6 @@ use Rattle.puts.specs.declared.event.Event.TheVariants.{Put, Get, Came, Has, Tel
 use Rattle.wire.specs.Said.{Event as CodeEvent, event}
 use Rattle.calls.specs.Answered.{AllSupported, code_answer}
 use Rattle.ranges.specs.Checked.{Handed}
-use Rattle.calls.specs.declared.Reason.{Reason}
 use Rattle.calls.specs.declared.Reason.TheVariants.{NoEvent, OutOfRange}
 use Rattle.calls.proofs.Acts.{code_refused, out_of_range_is_2}
 
@@ -43,13 +41,11 @@ pub found : {E : Type 0} (x y : CodeLimits) (i j : ℕ) → ◌≡◌ {A = Resul
 found x y i j f = let same : ◌≡◌ {A = CodeLimits × ℕ} (x, i) (y, j) = cc in ((λ k. (sym same k).0), (λ k. (same k).1))
 
 -- what the range check handed on, or not
-pub not_handed : {A : Type 0} {b : Bool} (x : A) (o : Option A) (w v : Reason) → ok_or o w ≡ Err v → Handed b x o → (b ≡ false) × (w ≡ v)
-not_handed x None w v e h = (h, cc)
-not_handed x (Some y) w v e h = absurd (grind (arith, e))
+pub not_handed : {A : Type 0} {b : Bool} (x : A) (o : Option A) → o ≡ None → Handed b x o → b ≡ false
+not_handed {b = b} x o e h = subst (Handed b x) e h
 
-pub was_handed : {A : Type 0} {b : Bool} (x : A) (o : Option A) (w : Reason) (y : A) → ok_or o w ≡ Ok y → Handed b x o → (b ≡ true) × (y ≡ x)
-was_handed x None w y e h = absurd (grind (arith, e))
-was_handed x (Some z) w y e h = let g : z ≡ y = cc in (h.0, sym g ∙ h.1)
+pub was_handed : {A : Type 0} {b : Bool} (x : A) (o : Option A) (y : A) → o ≡ Some y → Handed b x o → (b ≡ true) × (y ≡ x)
+was_handed {b = b} x o y e h = subst (Handed b x) e h
 
 -- the error of a result
 pub same_error : {A E : Type 0} {w v : E} → ◌≡◌ {A = Result A E} (Err w) (Err v) → w ≡ v

@@ -1,7 +1,7 @@
 // A replica: what each event is answered or why it is refused, and what it does to the replica in its lent memory.
 #![tactic(auto)]
 
-ghost use Rattle.logs.specs.State.{Held, Same, words_at};
+ghost use Rattle.logs.specs.State.{Held, SeenValid, Same, words_at};
 ghost use Rattle.model.specs.Clock.{Clock as ModelClock};
 ghost use Rattle.model.specs.Limits.{Limits as ModelLimits};
 ghost use Rattle.memory.specs.Image.{encode};
@@ -16,7 +16,7 @@ ghost use Rattle.calls.specs.declared.Reason.TheVariants.{Impossible, LogFull, N
 ghost use Rattle.std.specs.Prelude.{◌≡◌, ℕ, ◌<◌, ◌≤◌, true, List, ◌++◌, IfOk, Ok, Err, length};
 
 use delivery::{deliver, had, nothing_new, ready, stamp, take_own};
-use logs::{Place, Replica};
+use logs::{Place, Replica, View, clock_of};
 use memory::limits_of;
 use puts::event::Refusal;
 use puts::{COUNT_BOUND, Clock, Put, Text};
@@ -91,108 +91,112 @@ pub fn enter(mem: &[u64], bytes: &[u8]) -> Result<(Place, Checked), Reason>
 {
     let (limits, me) = limits_of(mem)?;
     let event = read_event(bytes)?;
-    let event = in_range(limits, event).ok_or(Reason::OutOfRange)?;
-    Ok((Place::new(limits, me), event))
+    match in_range(limits, event) {
+        Some(event) => Ok((Place::new(limits, me), event)),
+        None => Err(Reason::OutOfRange),
+    }
 }
 
 // One more own put has its room and its number.
-fn own_room(replica: &Replica<'_>) -> Result<(), Reason>
-    ensures { (l : ModelLimits) (r : ModelReplica) (b : Body) → Held l r replica.now → Passes (log_room l r.delivery (put_of b)) LogFull result }
+fn own_room(view: &View<'_>) -> Result<(), Reason>
+    ensures { (l : ModelLimits) (r : ModelReplica) (b : Body) → SeenValid l r view.now → Passes (log_room l r.delivery (put_of b)) LogFull result }
 {
-    if replica.logged() >= replica.at.layout.log.count || replica.own_count() >= COUNT_BOUND - 1 {
+    if view.logged() >= view.at.layout.log.count || view.own_count() >= COUNT_BOUND - 1 {
         return Err(Reason::LogFull);
     }
     Ok(())
 }
 
 // A put is made here.
-fn put_answer(replica: &Replica<'_>, key: u64, value: Text) -> Result<Answer<Clock>, Reason>
-    ensures { (l : ModelLimits) (r : ModelReplica) (v : List ℕ) → Held l r replica.now → AllSupported l → value ≡ code_text v → good_body l (text_of key v) ≡ true → result ≡ code_answer l r (put_of (text_of key v)) }
+fn put_answer(view: &View<'_>, key: u64, value: Text) -> Result<Answer<Clock>, Reason>
+    ensures { (l : ModelLimits) (r : ModelReplica) (v : List ℕ) → SeenValid l r view.now → AllSupported l → value ≡ code_text v → good_body l (text_of key v) ≡ true → result ≡ code_answer l r (put_of (text_of key v)) }
 {
-    own_room(replica)?;
+    own_room(view)?;
     Ok(Answer::Made {
-        put: stamp(replica, key, value),
+        put: stamp(view.mem, view.at.me, key, value),
     })
 }
 
 // The put that came can be: one of this replica's own was made here.
-fn possible_put(replica: &Replica<'_>, p: &Put) -> Result<(), Reason>
-    ensures { (l : ModelLimits) (r : ModelReplica) (q : ModelPut Body) → Held l r replica.now → Sound l q → p.now ≡ code_put q → Passes (possible r.delivery (came_of q)) Impossible result }
+fn possible_put(view: &View<'_>, p: &Put) -> Result<(), Reason>
+    ensures { (l : ModelLimits) (r : ModelReplica) (q : ModelPut Body) → SeenValid l r view.now → Sound l q → p.now ≡ code_put q → Passes (possible r.delivery (came_of q)) Impossible result }
 {
-    if p.from == replica.at.me as u64 && !had(replica, p) {
+    if p.from == view.at.me as u64 && !had(view.mem, p) {
         return Err(Reason::Impossible);
     }
     Ok(())
 }
 
 // The put that came need not wait, or finds room.
-fn queue_room(replica: &Replica<'_>, p: &Put) -> Result<(), Reason>
-    ensures { (l : ModelLimits) (r : ModelReplica) (q : ModelPut Body) → Held l r replica.now → Sound l q → p.now ≡ code_put q → Passes (has_queue_room l r.delivery (came_of q)) QueueFull result }
+fn queue_room(view: &View<'_>, p: &Put) -> Result<(), Reason>
+    ensures { (l : ModelLimits) (r : ModelReplica) (q : ModelPut Body) → SeenValid l r view.now → Sound l q → p.now ≡ code_put q → Passes (has_queue_room l r.delivery (came_of q)) QueueFull result }
 {
-    if replica.waiting() < replica.at.layout.waiting.count
-        || nothing_new(replica, p)
-        || ready(replica, p)
-    {
+    if view.waiting() < view.at.layout.waiting.count {
+        return Ok(());
+    }
+    let again = nothing_new(view, p);
+    let next = ready(view.mem, p);
+    if again || next {
         return Ok(());
     }
     Err(Reason::QueueFull)
 }
 
 // A put came.
-fn came_answer(replica: &Replica<'_>, p: &Put) -> Result<Answer<Clock>, Reason>
-    ensures { (l : ModelLimits) (r : ModelReplica) (q : ModelPut Body) → Held l r replica.now → AllSupported l → Sound l q → is_in_range l (came_of q) ≡ true → p.now ≡ code_put q → result ≡ code_answer l r (came_of q) }
+fn came_answer(view: &View<'_>, p: &Put) -> Result<Answer<Clock>, Reason>
+    ensures { (l : ModelLimits) (r : ModelReplica) (q : ModelPut Body) → SeenValid l r view.now → AllSupported l → Sound l q → is_in_range l (came_of q) ≡ true → p.now ≡ code_put q → result ≡ code_answer l r (came_of q) }
 {
-    possible_put(replica, p)?;
-    queue_room(replica, p)?;
+    // What is not possible is refused as that, with room or without.
+    let _possible = possible_put(view, p)?;
+    let _room = queue_room(view, p)?;
     Ok(Answer::Came)
 }
 
 // A clock that was told has no more of this replica's puts than it made.
-fn possible_clock(replica: &Replica<'_>, clock: &Clock) -> Result<(), Reason>
-    ensures { (l : ModelLimits) (r : ModelReplica) (j : ℕ) (c : ModelClock) → Held l r replica.now → length c ≡ l.replicas → clock.now ≡ code_clock c → Passes (possible r.delivery (has_of j c)) Impossible result }
+fn possible_clock(view: &View<'_>, clock: &Clock) -> Result<(), Reason>
+    ensures { (l : ModelLimits) (r : ModelReplica) (j : ℕ) (c : ModelClock) → SeenValid l r view.now → length c ≡ l.replicas → clock.now ≡ code_clock c → Passes (possible r.delivery (has_of j c)) Impossible result }
 {
-    if clock.count(replica.at.me as u64) > replica.own_count() {
+    if clock.count(view.at.me as u64) > view.own_count() {
         return Err(Reason::Impossible);
     }
     Ok(())
 }
 
 // A replica told its clock. The reply is read off it later.
-fn has_answer(replica: &Replica<'_>, clock: &Clock) -> Result<Answer<Clock>, Reason>
-    ensures { (l : ModelLimits) (r : ModelReplica) (j : ℕ) (c : ModelClock) → Held l r replica.now → AllSupported l → is_in_range l (has_of j c) ≡ true → clock.now ≡ code_clock c → result ≡ code_answer l r (has_of j c) }
+fn has_answer(view: &View<'_>, clock: &Clock) -> Result<Answer<Clock>, Reason>
+    ensures { (l : ModelLimits) (r : ModelReplica) (j : ℕ) (c : ModelClock) → SeenValid l r view.now → AllSupported l → is_in_range l (has_of j c) ≡ true → clock.now ≡ code_clock c → result ≡ code_answer l r (has_of j c) }
 {
-    possible_clock(replica, clock)?;
+    possible_clock(view, clock)?;
     Ok(Answer::Reply { to: *clock })
 }
 
 // What stands at a key.
-fn get_answer(replica: &Replica<'_>, key: u64) -> Answer<Clock>
-    ensures { (l : ModelLimits) (r : ModelReplica) → Held l r replica.now → AllSupported l → key < l.keys → Ok result ≡ code_answer l r (get_of key) }
+fn get_answer(view: &View<'_>, key: u64) -> Answer<Clock>
+    ensures { (l : ModelLimits) (r : ModelReplica) → SeenValid l r view.now → AllSupported l → key < l.keys → Ok result ≡ code_answer l r (get_of key) }
 {
-    Answer::Value {
-        put: replica.value_at(key),
-    }
+    let put = view.value_at(key);
+    Answer::Value { put }
 }
 
 // Its clock.
-fn tell_answer(replica: &Replica<'_>) -> Answer<Clock>
-    ensures { (l : ModelLimits) (r : ModelReplica) → Held l r replica.now → AllSupported l → Ok result ≡ code_answer l r tell_of }
+fn tell_answer(view: &View<'_>) -> Answer<Clock>
+    ensures { (l : ModelLimits) (r : ModelReplica) → SeenValid l r view.now → AllSupported l → Ok result ≡ code_answer l r tell_of }
 {
     Answer::Clock {
-        clock: replica.clock_of(),
+        clock: clock_of(view.mem),
     }
 }
 
 // What an event whose numbers are in range is answered, or why it is refused. Nothing changes.
-pub fn answer_to(replica: &Replica<'_>, event: &Checked) -> Result<Answer<Clock>, Reason>
-    ensures { (l : ModelLimits) (r : ModelReplica) (e : ModelEvent) → Held l r replica.now → AllSupported l → Comes l e event.now → result ≡ code_answer l r e }
+pub fn answer_to(view: &View<'_>, event: &Checked) -> Result<Answer<Clock>, Reason>
+    ensures { (l : ModelLimits) (r : ModelReplica) (e : ModelEvent) → SeenValid l r view.now → AllSupported l → Comes l e event.now → result ≡ code_answer l r e }
 {
     match event {
-        Checked::Put { key, value } => put_answer(replica, *key, *value),
-        Checked::Get { key } => Ok(get_answer(replica, *key)),
-        Checked::Came { put } => came_answer(replica, put),
-        Checked::Has { replica: _, clock } => has_answer(replica, clock),
-        Checked::Tell => Ok(tell_answer(replica)),
+        Checked::Put { key, value } => put_answer(view, *key, *value),
+        Checked::Get { key } => Ok(get_answer(view, *key)),
+        Checked::Came { put } => came_answer(view, put),
+        Checked::Has { replica: _, clock } => has_answer(view, clock),
+        Checked::Tell => Ok(tell_answer(view)),
     }
 }
 
@@ -206,20 +210,41 @@ fn apply_put(replica: &mut Replica<'_>, answer: &Answer<Clock>)
     }
 }
 
+// A put that came is taken, or waits.
+fn apply_came(replica: &mut Replica<'_>, p: &Put, answer: &Answer<Clock>)
+    ensures same { Same replica.old replica.new }
+    ensures does { (l : ModelLimits) (r : ModelReplica) (q : ModelPut Body) → Held l r replica.old → Sound l q → p.now ≡ code_put q → Ok answer.now ≡ code_answer l r (came_of q) → Held l (after l r (came_of q)) replica.new }
+{
+    if let Answer::Came = answer {
+        deliver(replica, p);
+    }
+}
+
 // What an event does that is accepted and answered so.
-pub fn apply(replica: &mut Replica<'_>, event: &Checked, answer: &Answer<Clock>)
+pub fn apply_accepted(replica: &mut Replica<'_>, event: &Checked, answer: &Answer<Clock>)
     ensures same { Same replica.old replica.new }
     ensures does { (l : ModelLimits) (r : ModelReplica) (e : ModelEvent) → Held l r replica.old → Comes l e event.now → Ok answer.now ≡ code_answer l r e → Held l (after l r e) replica.new }
 {
     match event {
         Checked::Put { key: _, value: _ } => apply_put(replica, answer),
-        Checked::Came { put } => deliver(replica, put),
+        Checked::Came { put } => apply_came(replica, put, answer),
         Checked::Has {
             replica: from,
             clock,
         } => replica.learn(*from as usize, clock),
         Checked::Get { key: _ } => {}
         Checked::Tell => {}
+    }
+}
+
+// What an event does that is answered so: nothing, if it is refused.
+pub fn apply(replica: &mut Replica<'_>, event: &Checked, answer: &Result<Answer<Clock>, Reason>)
+    ensures same { Same replica.old replica.new }
+    ensures does { (l : ModelLimits) (r : ModelReplica) (e : ModelEvent) → Held l r replica.old → Comes l e event.now → answer.now ≡ code_answer l r e → Held l (after l r e) replica.new }
+{
+    match answer {
+        Ok(answer) => apply_accepted(replica, event, answer),
+        Err(_reason) => {}
     }
 }
 

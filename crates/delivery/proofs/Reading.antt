@@ -1,6 +1,6 @@
 -- Going by what is read of a slot.
 use Rattle.std.proofs.Common.{◌≡◌, ℕ, zero, suc, ◌+◌, ◌<◌, Bool, true, false, cond, ◌||◌, List, [], ◌∷◌, length, get_or, Some, None, Option, sym, refl, ap, ◌∙◌, subst, arith}
-use Rattle.std.specs.Bool.{then_some, MatchBool}
+use Rattle.std.specs.Bool.{MatchBool}
 use Rattle.std.specs.List.{range_with_len, HoldsAt, AllWithin}
 use Rattle.std.proofs.lemmas.List.FromFn.{length-range_with_len, get_or-range_with_len}
 use Rattle.model.specs.Put.{Put, Body, number, same_put}
@@ -18,8 +18,8 @@ use Rattle.slots.proofs.Slots.{slot_laws}
 use Rattle.memory.specs.Valid.{Sound, Fits}
 use Rattle.memory.specs.State.{with_clock}
 use Rattle.memory.proofs.State.{reads}
-use Rattle.logs.specs.declared.Replica.{Replica as Lent}
-use Rattle.logs.specs.State.{Stands}
+use Rattle.logs.specs.declared.place.Place.{Place}
+use Rattle.logs.specs.State.{StandsIn}
 
 pub none_some : {A : Type 0} (x : A) → ◌≡◌ {A = Option A} None (Some x) → ⊥
 none_some x e = let z : ◌≡◌ {A = ℕ} 0 1 = cc in omega arith
@@ -42,20 +42,19 @@ pub chosen_none : (b : Bool) (q : Put Body) → b ≡ false → None ≡ code_sl
 unfolding code_slot
 chosen_none b q e = sym (ap (λ t. code_slot (cond t (q ∷ []) [])) e)
 
-pub chosen_is : (b : Bool) (q : Put Body) → then_some b (code_put q) ≡ code_slot (cond b (q ∷ []) [])
+pub chosen_some : (b : Bool) (q : Put Body) (p : CodePut) → b ≡ true → p ≡ code_put q → Some p ≡ code_slot (cond b (q ∷ []) [])
 unfolding code_slot
-chosen_is true q = refl
-chosen_is false q = refl
+chosen_some b q p e h = ap (λ x. Some x) h ∙ sym (ap (λ t. code_slot (cond t (q ∷ []) [])) e)
 
 -- what is read of a put that waits
-module _ (l : Limits) (r : Replica) (x : Lent) (s : Stands l r x) (i : ℕ) (h : i < length r.delivery.waiting) (d : Put Body) (k : ℕ) (ek : k ≡ x.at.layout.waiting.base + i) where
+module _ (l : Limits) (r : Replica) (m : List ℕ) (x : Place) (s : StandsIn l r m x) (i : ℕ) (h : i < length r.delivery.waiting) (d : Put Body) (k : ℕ) (ek : k ≡ x.layout.waiting.base + i) where
   here : k ≡ (l.keys + l.log_most) + i
   here = ek ∙ ap (λ b. b + i) s.laid.waiting.0
 
-  pub head_here : (o : Option Head) → o ≡ head_at k x.mem.now → o ≡ Some (record { from = (get_or r.delivery.waiting i d).from; number = number (get_or r.delivery.waiting i d) })
+  pub head_here : (o : Option Head) → o ≡ head_at k m → o ≡ Some (record { from = (get_or r.delivery.waiting i d).from; number = number (get_or r.delivery.waiting i d) })
   head_here o e = e ∙ (λ j. head_at (here j) (s.fitted.mem j)) ∙ (reads l r s.fitted.fits).waits_head i d h
 
-  pub put_here : (o : Option CodePut) → o ≡ put_at k x.mem.now → o ≡ Some (code_put (get_or r.delivery.waiting i d))
+  pub put_here : (o : Option CodePut) → o ≡ put_at k m → o ≡ Some (code_put (get_or r.delivery.waiting i d))
   put_here o e = e ∙ (λ j. put_at (here j) (s.fitted.mem j)) ∙ (reads l r s.fitted.fits).waits i d h
 
 -- and of any slot with a put

@@ -1,5 +1,5 @@
 -- Those that wait, taken one after the other; and what comes of a put that came.
-use Rattle.std.proofs.Common.{◌≡◌, ℕ, zero, suc, ◌<◌, Bool, true, false, cond, not, ◌&&◌, ◌||◌, eqb, ltb, ◌≢◌, List, [], ◌∷◌, length, get_or, Some, None, Option, sym, refl, ap, ◌∙◌, subst, arith}
+use Rattle.std.proofs.Common.{◌≡◌, ℕ, zero, suc, ◌+◌, ◌-◌, ◌<◌, Bool, true, false, cond, not, ◌&&◌, ◌||◌, eqb, ltb, ◌≢◌, List, [], ◌∷◌, length, get_or, Some, None, Option, sym, refl, ap, ◌∙◌, subst, arith}
 use Rattle.std.specs.Option.{MatchOption}
 use Rattle.std.proofs.lemmas.List.{nil_from_length}
 use Rattle.std.proofs.lemmas.Bool.{eqb-false, ltb-true, leb-true, le-leb, ne_eqb, and_left, not-true, or_parts, cond-true, cond-false}
@@ -108,6 +108,12 @@ taken_unswept l m s x y q u h =
 pub settle_takes : (n : ℕ) (m : Run Body) (q : Put Body) → first_ready m.now m.now.waiting ≡ q ∷ [] → settle (suc n) m ≡ settle n (take_one q m)
 unfolding settle take_then
 settle_takes n m q e = ap (λ ps. take_then (settle n) ps m) e
+
+-- of the rounds to an end one is done
+pub settle_on : (end i : ℕ) (m : Run Body) (q : Put Body) → i < end → first_ready m.now m.now.waiting ≡ q ∷ [] → settle (end - (i + 1)) (take_one q m) ≡ settle (end - i) m
+settle_on end i m q h e =
+    let z : end - i ≡ suc (end - (i + 1)) = omega arith in
+    sym (ap (λ n. settle n m) z ∙ settle_takes (end - (i + 1)) m q e)
 
 pub settle_ends : (n : ℕ) (m : Run Body) → first_ready m.now m.now.waiting ≡ [] → settle n m ≡ m
 unfolding settle take_then

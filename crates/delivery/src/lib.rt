@@ -11,81 +11,81 @@ ghost use Rattle.model.specs.Replica.{Replica as ModelReplica, put as put_of, ca
 ghost use Rattle.puts.specs.Values.{clock_size, code_clock, code_put, code_text, Bytes, Fit};
 ghost use Rattle.puts.specs.Words.{Slot, code_slot, code_head};
 ghost use Rattle.slots.specs.Image.{row_count, memory};
-ghost use Rattle.memory.specs.Valid.{Sound};
+ghost use Rattle.memory.specs.Valid.{Sound, Fits};
 ghost use Rattle.memory.specs.State.{with_waiting, with_store};
-ghost use Rattle.logs.specs.State.{Fitted, Stands, Held, Same, nth_of};
-ghost use Rattle.delivery.specs.Steps.{with_delivery, followed, took, if_ready, Moved, Unswept};
+ghost use Rattle.logs.specs.State.{Fitted, Stands, Held, Seen, Same, nth_of};
+ghost use Rattle.delivery.specs.Steps.{with_delivery, followed, took, if_ready, Moved, Emptied, Unswept};
 
-use logs::Replica;
+use logs::{Replica, View, clock_of};
 use memory::{SIZES_ROW, WAITING_SIZE};
 use puts::words::Head;
 use puts::{Clock, Put, Text};
 use slots::{clear_slot, copy_slot, read_head, read_slot, write_slot, write_word};
 
 // The head of the `i`-th put that waits: none past the end.
-pub fn waiting_head(replica: &Replica<'_>, i: usize) -> Option<Head>
-    ensures { (l : Limits) (r : ModelReplica) → Stands l r replica.now → result ≡ code_head (nth_of r.delivery.waiting i) }
+pub fn waiting_head(view: &View<'_>, i: usize) -> Option<Head>
+    ensures { (l : Limits) (r : ModelReplica) → Seen l r view.now → result ≡ code_head (nth_of r.delivery.waiting i) }
 {
-    if i >= replica.waiting() {
+    if i >= view.waiting() {
         return None;
     }
-    read_head(replica.mem, replica.at.waiting_slot(i))
+    read_head(view.mem, view.at.waiting_slot(i))
 }
 
 // The put itself.
-pub fn waiting_at(replica: &Replica<'_>, i: usize) -> Option<Put>
-    ensures { (l : Limits) (r : ModelReplica) → Stands l r replica.now → result ≡ code_slot (nth_of r.delivery.waiting i) }
+pub fn waiting_at(view: &View<'_>, i: usize) -> Option<Put>
+    ensures { (l : Limits) (r : ModelReplica) → Seen l r view.now → result ≡ code_slot (nth_of r.delivery.waiting i) }
 {
-    if i >= replica.waiting() {
+    if i >= view.waiting() {
         return None;
     }
-    read_slot(replica.mem, replica.at.waiting_slot(i))
+    read_slot(view.mem, view.at.waiting_slot(i))
 }
 
 // The `i`-th put that waits has this head.
-fn waits_at(replica: &Replica<'_>, i: usize, from: u64, number: u64) -> bool
-    requires { i ≤ replica.now.at.layout.waiting.count }
-    ensures { (l : Limits) (r : ModelReplica) (q d : ModelPut Body) → Stands l r replica.now → i < length r.delivery.waiting → from ≡ q.from → number ≡ number_of q → result ≡ same_put q (slice_index_or r.delivery.waiting i d) }
+fn waits_at(view: &View<'_>, i: usize, from: u64, number: u64) -> bool
+    requires { i ≤ view.now.at.layout.waiting.count }
+    ensures { (l : Limits) (r : ModelReplica) (q d : ModelPut Body) → Seen l r view.now → i < length r.delivery.waiting → from ≡ q.from → number ≡ number_of q → result ≡ same_put q (slice_index_or r.delivery.waiting i d) }
 {
-    let slot = replica.at.waiting_slot(i);
-    read_head(replica.mem, slot).is_some_and(|head| from == head.from && number == head.number)
+    let slot = view.at.waiting_slot(i);
+    read_head(view.mem, slot).is_some_and(|head| from == head.from && number == head.number)
 }
 
 // A put with this head waits.
-fn is_waiting(replica: &Replica<'_>, from: u64, number: u64) -> bool
-    ensures { (l : Limits) (r : ModelReplica) (q : ModelPut Body) → Stands l r replica.now → from ≡ q.from → number ≡ number_of q → result ≡ is_in q r.delivery.waiting }
+fn is_waiting(view: &View<'_>, from: u64, number: u64) -> bool
+    ensures { (l : Limits) (r : ModelReplica) (q : ModelPut Body) → Seen l r view.now → from ≡ q.from → number ≡ number_of q → result ≡ is_in q r.delivery.waiting }
 {
-    (0..replica.waiting()).any(|i| waits_at(replica, i, from, number))
+    (0..view.waiting()).any(|i| waits_at(view, i, from, number))
 }
 
 // It was taken.
-pub fn had(replica: &Replica<'_>, p: &Put) -> bool
-    ensures { (l : Limits) (r : ModelReplica) (q : ModelPut Body) → Fitted l r replica.now.mem.now → Sound l q → p.now ≡ code_put q → result ≡ is_had r.delivery.clock q }
+pub fn had(mem: &[u64], p: &Put) -> bool
+    ensures { (l : Limits) (r : ModelReplica) (q : ModelPut Body) → Fitted l r mem.now → Sound l q → p.now ≡ code_put q → result ≡ is_had r.delivery.clock q }
 {
-    p.had_by(&replica.clock_of())
+    p.had_by(&clock_of(mem))
 }
 
 // It was taken, or it waits already.
-pub fn nothing_new(replica: &Replica<'_>, p: &Put) -> bool
-    ensures { (l : Limits) (r : ModelReplica) (q : ModelPut Body) → Stands l r replica.now → Sound l q → p.now ≡ code_put q → result ≡ is_nothing_new r.delivery q }
+pub fn nothing_new(view: &View<'_>, p: &Put) -> bool
+    ensures { (l : Limits) (r : ModelReplica) (q : ModelPut Body) → Seen l r view.now → Sound l q → p.now ≡ code_put q → result ≡ is_nothing_new r.delivery q }
 {
-    had(replica, p) || is_waiting(replica, p.from, p.number())
+    had(view.mem, p) || is_waiting(view, p.from, p.number())
 }
 
 // It is the next of its replica, and all that it had seen is here.
-pub fn ready(replica: &Replica<'_>, p: &Put) -> bool
-    ensures { (l : Limits) (r : ModelReplica) (q : ModelPut Body) → Fitted l r replica.now.mem.now → Sound l q → p.now ≡ code_put q → result ≡ is_ready r.delivery q }
+pub fn ready(mem: &[u64], p: &Put) -> bool
+    ensures { (l : Limits) (r : ModelReplica) (q : ModelPut Body) → Fitted l r mem.now → Sound l q → p.now ≡ code_put q → result ≡ is_ready r.delivery q }
 {
-    p.ready(&replica.clock_of())
+    p.ready(&clock_of(mem))
 }
 
-// The put that this replica makes now.
-pub fn stamp(replica: &Replica<'_>, key: u64, value: Text) -> Put
-    ensures { (l : Limits) (r : ModelReplica) (v : List ℕ) → Stands l r replica.now → value ≡ code_text v → result ≡ code_put (stamped (text_at key v) r.delivery) }
+// The put that replica `me` makes now.
+pub fn stamp(mem: &[u64], me: usize, key: u64, value: Text) -> Put
+    ensures { (l : Limits) (r : ModelReplica) (v : List ℕ) → Fitted l r mem.now → me ≡ r.delivery.me → value ≡ code_text v → result ≡ code_put (stamped (text_at key v) r.delivery) }
 {
     Put {
-        from: replica.at.me as u64,
-        seen: replica.clock_of(),
+        from: me as u64,
+        seen: clock_of(mem),
         key,
         value,
     }
@@ -118,46 +118,47 @@ fn stand(replica: &mut Replica<'_>, p: &Put)
     }
 }
 
-// The `i`-th put that waits is had.
-fn had_at(replica: &Replica<'_>, i: usize, clock: &Clock) -> bool
-    requires { i ≤ replica.now.at.layout.waiting.count }
-    ensures { (rs : List (List ℕ)) (ss : List Slot) (q : ModelPut Body) (c : ModelClock) → length rs ≡ row_count → replica.now.at.layout.waiting.base + i < length ss → slice_index_or ss (replica.now.at.layout.waiting.base + i) [] ≡ q ∷ [] → Fit q → length c ≤ clock_size → clock.now ≡ code_clock c → replica.now.mem.now ≡ memory rs ss → result ≡ is_had c q }
+// The put in slot `k` is had.
+fn had_at(mem: &[u64], k: usize, clock: &Clock) -> bool
+    ensures { (rs : List (List ℕ)) (ss : List Slot) (q : ModelPut Body) (c : ModelClock) → length rs ≡ row_count → k < length ss → slice_index_or ss k [] ≡ q ∷ [] → Fit q → length c ≤ clock_size → clock.now ≡ code_clock c → mem.now ≡ memory rs ss → result ≡ is_had c q }
 {
-    let slot = replica.at.waiting_slot(i);
-    read_head(replica.mem, slot).is_some_and(|head| head.number <= clock.count(head.from))
+    read_head(mem, k).is_some_and(|head| head.number <= clock.count(head.from))
 }
 
-// What stands in the `i`-th slot of what waits stands in the one at `to` too.
-fn move_slot(replica: &mut Replica<'_>, i: usize, to: usize)
-    requires { (i ≤ replica.old.at.layout.waiting.count) × (to ≤ replica.old.at.layout.waiting.count) }
-    ensures same { Same replica.old replica.new }
-    ensures does { (rs : List (List ℕ)) (ss : List Slot) → length rs ≡ row_count → replica.old.at.layout.waiting.base + i < length ss → replica.old.at.layout.waiting.base + to < length ss → replica.old.mem.now ≡ memory rs ss → replica.new.mem.now ≡ memory rs (slice_set ss (replica.old.at.layout.waiting.base + to) (slice_index_or ss (replica.old.at.layout.waiting.base + i) [])) }
+// What stands in slot `k` stands in slot `to` too.
+fn move_slot(mem: &mut [u64], k: usize, to: usize)
+    ensures { (rs : List (List ℕ)) (ss : List Slot) → length rs ≡ row_count → k < length ss → to < length ss → mem.old ≡ memory rs ss → mem.new ≡ memory rs (slice_set ss to (slice_index_or ss k [])) }
 {
-    if i != to {
-        copy_slot(
-            replica.mem,
-            replica.at.waiting_slot(i),
-            replica.at.waiting_slot(to),
-        );
+    if k != to {
+        copy_slot(mem, k, to);
     }
 }
 
 // Moves what is not had to the front of what waits, in its order; how much that is.
-fn keep(replica: &mut Replica<'_>, count: usize, clock: &Clock) -> usize
-    requires { count ≤ replica.old.at.layout.waiting.count }
-    ensures same { Same replica.old replica.new }
+fn keep(mem: &mut [u64], base: usize, count: usize, clock: &Clock) -> usize
+    requires { base + count ≤ 6144 }
     ensures bound { result ≤ count }
-    ensures moved { (l : Limits) (r : ModelReplica) → Stands l r replica.old → count ≡ length r.delivery.waiting → clock.now ≡ code_clock r.delivery.clock → Moved l r replica.new.mem.now count result }
+    ensures moved { (l : Limits) (r : ModelReplica) → Fitted l r mem.old → base ≡ l.keys + l.log_most → count ≡ length r.delivery.waiting → clock.now ≡ code_clock r.delivery.clock → Moved l r mem.new count result }
 {
     // A fold would write the memory in its closure, and no chain says what that leaves.
     let mut stay = 0;
     for i in 0..count {
-        if !had_at(replica, i, clock) {
-            move_slot(replica, i, stay);
+        if !had_at(mem, base + i, clock) {
+            move_slot(mem, base + i, base + stay);
             stay += 1;
         }
     }
     stay
+}
+
+// Empties the slots of what waited behind the first `stay`.
+fn empty(mem: &mut [u64], base: usize, count: usize, stay: usize)
+    requires { base + count ≤ 6144 }
+    ensures { (l : Limits) (r : ModelReplica) → Fits l r → base ≡ l.keys + l.log_most → count ≡ length r.delivery.waiting → stay ≤ count → Moved l r mem.old count stay → Emptied l r mem.new count stay }
+{
+    for j in stay..count {
+        clear_slot(mem, base + j);
+    }
 }
 
 // What is had waits no more.
@@ -170,10 +171,9 @@ fn clean(replica: &mut Replica<'_>)
         return;
     }
     let clock = replica.clock_of();
-    let stay = keep(replica, count, &clock);
-    for j in stay..count {
-        clear_slot(replica.mem, replica.at.waiting_slot(j));
-    }
+    let base = replica.at.layout.waiting.base;
+    let stay = keep(replica.mem, base, count, &clock);
+    empty(replica.mem, base, count, stay);
     write_word(replica.mem, SIZES_ROW, WAITING_SIZE, stay as u64);
 }
 
@@ -206,7 +206,8 @@ pub fn make_put(replica: &mut Replica<'_>, key: u64, value: Text) -> Put
     ensures same { Same replica.old replica.new }
     ensures does { (l : Limits) (r : ModelReplica) (v : List ℕ) → Held l r replica.old → value ≡ code_text v → Bytes v → good_body l (text_at key v) ≡ true → log_room l r.delivery (put_of (text_at key v)) ≡ true → (result ≡ code_put (stamped (text_at key v) r.delivery)) × Held l (moved (take_one (stamped (text_at key v) r.delivery) (begin r.delivery)) r.store) replica.new }
 {
-    let p = stamp(replica, key, value);
+    let view = replica.view();
+    let p = stamp(view.mem, view.at.me, key, value);
     take_own(replica, &p);
     p
 }
@@ -231,7 +232,11 @@ fn ready_at(replica: &Replica<'_>, i: usize, clock: &Clock) -> Option<Put>
     if head.number != clock.count(head.from).wrapping_add(1) {
         return None;
     }
-    read_slot(replica.mem, slot).filter(|p| p.ready(clock))
+    let p = read_slot(replica.mem, slot)?;
+    if !p.ready(clock) {
+        return None;
+    }
+    Some(p)
 }
 
 // The first that came of the puts that wait and are ready.
@@ -272,11 +277,12 @@ pub fn deliver(replica: &mut Replica<'_>, p: &Put)
     ensures same { Same replica.old replica.new }
     ensures does { (l : Limits) (r : ModelReplica) (q : ModelPut Body) → Held l r replica.old → Sound l q → possible r.delivery (came q) ≡ true → queue_room l r.delivery (came q) ≡ true → p.now ≡ code_put q → Held l (moved (delivered l q r.delivery) r.store) replica.new }
 {
-    let again = nothing_new(replica, p);
+    let view = replica.view();
+    let again = nothing_new(&view, p);
     if again {
         return;
     }
-    let next = ready(replica, p);
+    let next = ready(view.mem, p);
     if next {
         take_other(replica, p);
         settle(replica);

@@ -9,21 +9,25 @@ ghost use Rattle.memory.specs.Running.{all_events};
 ghost use Rattle.model.specs.Program.{AnswersRight, MemoryBounded, Program, RefusalKeepsMemory};
 ghost use Rattle.replies.specs.Written.{answer_most};
 
-use calls::{Reason, answer_to, apply, enter};
-use logs::{Place, Replica};
+use calls::{Reason, answer_to, apply_accepted, enter};
+use logs::{Place, Replica, View};
 use ranges::Checked;
 pub use replies::ANSWER_MOST;
-use replies::{put_answer, put_refusal};
+use replies::{put_accepted, put_refusal};
 
 // An event whose numbers are in range happens: first it is answered, then it changes the replica. What is refused changes nothing, and nothing is written.
 fn happen(mem: &mut [u64], at: Place, event: &Checked, out: &mut [u8]) -> Result<usize, Reason>
     requires { answer_most ≤ length out.old }
     ensures { Happens result mem.old at event.now mem.new out.old out.new }
 {
-    let mut replica = Replica { mem, at };
-    let answer = answer_to(&replica, event)?;
-    let len = put_answer(out, &replica, &answer);
-    apply(&mut replica, event, &answer);
+    let view = View { mem, at };
+    let answer = answer_to(&view, event);
+    let accepted = match &answer {
+        Ok(accepted) => accepted,
+        Err(reason) => return Err(*reason),
+    };
+    let len = put_accepted(out, &view, accepted);
+    apply_accepted(&mut Replica { mem, at }, event, accepted);
     Ok(len)
 }
 
@@ -46,7 +50,7 @@ pub fn call(mem: &mut [u64], event: &[u8], out: &mut [u8]) -> Option<usize>
     }
     match answered(mem, event, out) {
         Ok(len) => Some(len),
-        Err(reason) => Some(put_refusal(out, reason)),
+        Err(reason) => Some(put_refusal(out, reason.into())),
     }
 }
 

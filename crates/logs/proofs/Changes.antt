@@ -20,7 +20,9 @@ use Rattle.memory.specs.State.{with_clock, with_log, with_known, own_count}
 use Rattle.memory.proofs.Rings.{down_take}
 use Rattle.memory.proofs.State.{fits_log, sound_take, writes}
 use Rattle.logs.specs.declared.Replica.{Replica as Lent}
-use Rattle.logs.specs.State.{Fitted, Holds, Laid, Stands, Held, Same}
+use Rattle.logs.specs.declared.View.{View}
+use Rattle.logs.specs.declared.place.Place.{Place}
+use Rattle.logs.specs.State.{Fitted, Holds, Laid, StandsIn, HeldIn, Stands, Held, Seen, SeenValid, Same}
 use Rattle.logs.specs.Log.{least}
 use Rattle.logs.proofs.Logs.{pruned_is}
 
@@ -31,8 +33,18 @@ pub holds : (l : Limits) (r r' : Replica) (m m' : List ℕ) → Holds l r m → 
 holds l r r' m m' h s f = record { valid = record { fits = f.fits; shaped = s; few = h.valid.few }; mem = f.mem }
 
 -- the same of a replica in its memory
+pub stands_in : (l : Limits) (r : Replica) (m : List ℕ) (x : Place) → HeldIn l r m x → StandsIn l r m x
+stands_in l r m x h = record { fitted = fitted l r m h.holds; laid = h.laid }
+
 pub stands : (l : Limits) (r : Replica) (x : Lent) → Held l r x → Stands l r x
-stands l r x h = record { fitted = fitted l r x.mem.now h.holds; laid = h.laid }
+stands l r x h = stands_in l r x.mem.now x.at h
+
+-- it is seen as it stands
+pub seen : (l : Limits) (r : Replica) (x : Lent) (v : View) → (v.mem.now ≡ x.mem.now) × (v.at ≡ x.at) → Stands l r x → Seen l r v
+seen l r x v e s = record { fitted = subst (Fitted l r) (sym e.0) s.fitted; laid = subst (Laid l r.delivery.me) (sym e.1) s.laid }
+
+pub seen_valid : (l : Limits) (r : Replica) (x : Lent) (v : View) → (v.mem.now ≡ x.mem.now) × (v.at ≡ x.at) → Held l r x → SeenValid l r v
+seen_valid l r x v e h = record { holds = subst (Holds l r) (sym e.0) h.holds; laid = subst (Laid l r.delivery.me) (sym e.1) h.laid }
 
 -- the memory and the place stay
 pub still : (x y z : Lent) → Same x y → Same y z → Same x z

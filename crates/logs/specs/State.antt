@@ -8,6 +8,7 @@ use Rattle.memory.specs.Image.{encode}
 use Rattle.memory.specs.Valid.{Fits, Valid}
 use Rattle.logs.specs.declared.place.Place.{Place}
 use Rattle.logs.specs.declared.Replica.{Replica}
+use Rattle.logs.specs.declared.View.{View}
 
 -- WHERE THE PARTS LIE: as the limits say, and which replica this is
 pub record Laid (l : Limits) (i : ℕ) (x : Place) : Type 0 where
@@ -30,15 +31,30 @@ pub record Holds (l : Limits) (r : ModelReplica) (m : List ℕ) : Type 0 where
   pub valid : Valid l r
   pub mem : m ≡ encode l r
 
+-- A STATE IN MEMORY at a place: that is its image, and its parts lie there as the limits say
+pub record StandsIn (l : Limits) (r : ModelReplica) (m : List ℕ) (x : Place) : Type 0 where
+  pub fitted : Fitted l r m
+  pub laid : Laid l r.delivery.me x
+
+-- and a valid one
+pub record HeldIn (l : Limits) (r : ModelReplica) (m : List ℕ) (x : Place) : Type 0 where
+  pub holds : Holds l r m
+  pub laid : Laid l r.delivery.me x
+
 -- A REPLICA IN ITS MEMORY: that is the image of a state, and its parts lie as the limits say
-pub record Stands (l : Limits) (r : ModelReplica) (x : Replica) : Type 0 where
-  pub fitted : Fitted l r x.mem.now
-  pub laid : Laid l r.delivery.me x.at
+abbrev pub Stands : Limits → ModelReplica → Replica → Type 0
+Stands l r x = StandsIn l r x.mem.now x.at
 
 -- and of a valid one
-pub record Held (l : Limits) (r : ModelReplica) (x : Replica) : Type 0 where
-  pub holds : Holds l r x.mem.now
-  pub laid : Laid l r.delivery.me x.at
+abbrev pub Held : Limits → ModelReplica → Replica → Type 0
+Held l r x = HeldIn l r x.mem.now x.at
+
+-- THE SAME WHERE IT IS ONLY READ
+abbrev pub Seen : Limits → ModelReplica → View → Type 0
+Seen l r x = StandsIn l r x.mem.now x.at
+
+abbrev pub SeenValid : Limits → ModelReplica → View → Type 0
+SeenValid l r x = HeldIn l r x.mem.now x.at
 
 -- the memory that was lent and the place in it are still the same
 pub record Same (x y : Replica) : Type 0 where

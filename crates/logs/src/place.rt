@@ -39,24 +39,24 @@ impl Place {
     }
 
     // The slot of a key.
-    pub fn key_slot(self, key: u64) -> usize
-        ensures { result ≡ self.layout.keys.base + key }
+    pub fn key_slot(&self, key: u64) -> usize
+        ensures { result ≡ self.now.layout.keys.base + key }
     {
         self.layout.keys.base + key as usize
     }
 
     // The slot of the own put with this number in the log.
-    pub fn log_slot(self, number: u64) -> usize
-        requires { 0 < self.layout.log.count }
-        ensures { result ≡ self.layout.log.base + number % self.layout.log.count }
+    pub fn log_slot(&self, number: u64) -> usize
+        requires { 0 < self.now.layout.log.count }
+        ensures { result ≡ self.now.layout.log.base + number % self.now.layout.log.count }
     {
         self.layout.log.base + number as usize % self.layout.log.count
     }
 
     // The slot of the `i`-th put that waits.
-    pub fn waiting_slot(self, i: usize) -> usize
-        requires { i ≤ self.layout.waiting.count }
-        ensures { result ≡ self.layout.waiting.base + i }
+    pub fn waiting_slot(&self, i: usize) -> usize
+        requires { i ≤ self.now.layout.waiting.count }
+        ensures { result ≡ self.now.layout.waiting.base + i }
     {
         self.layout.waiting.base + i
     }

@@ -1,7 +1,7 @@
 // A replica by value: an event's bytes in, its answer as a value out.
 #![tactic(auto)]
 
-ghost use Rattle.logs.specs.State.{Held, Holds, Laid};
+ghost use Rattle.logs.specs.State.{Holds, Laid, SeenValid};
 ghost use Rattle.memory.specs.Running.{all_events};
 ghost use Rattle.model.specs.Clock.{Clock as ModelClock};
 ghost use Rattle.model.specs.Delivery.{reply as reply_of};
@@ -15,9 +15,9 @@ ghost use Rattle.std.specs.Prelude.{◌≡◌, true, length, Ok};
 ghost use Rattle.replica.specs.Answered.{says_in, some_puts};
 ghost use Rattle.replica.specs.Running.{Called, Runs};
 
-use calls::{answer_to, apply, enter};
+use calls::{answer_to, apply_accepted, enter};
 pub use calls::{Answer, Reason};
-use logs::{Place, REPLY_MOST, Replica};
+use logs::{Place, REPLY_MOST, Replica, View};
 use puts::{Clock, Put};
 use ranges::Checked;
 use std::array;
@@ -26,21 +26,21 @@ use std::array;
 pub type Reply = [Option<Put>; REPLY_MOST];
 
 // The logged puts that a clock lacks.
-fn reply(replica: &Replica<'_>, clock: &Clock) -> Reply
-    ensures { (l : ModelLimits) (r : ModelReplica) (c : ModelClock) → Held l r replica.now → length c ≡ l.replicas → clock.now ≡ code_clock c → some_puts l.replicas result ≡ reply_of c r.delivery }
+fn reply(view: &View<'_>, clock: &Clock) -> Reply
+    ensures { (l : ModelLimits) (r : ModelReplica) (c : ModelClock) → SeenValid l r view.now → length c ≡ l.replicas → clock.now ≡ code_clock c → some_puts l.replicas result ≡ reply_of c r.delivery }
 {
-    array::from_fn(|i| replica.reply_at(clock, i))
+    array::from_fn(|i| view.reply_at(clock, i))
 }
 
 // The answer with its reply read, from the state before the event.
-fn replied(replica: &Replica<'_>, answer: &Answer<Clock>) -> Answer<Reply>
-    ensures { (l : ModelLimits) (r : ModelReplica) (e : ModelEvent) → Held l r replica.now → readable e ≡ true → is_in_range l e ≡ true → Ok answer.now ≡ code_answer l r e → says_in l.replicas (Ok result) ≡ answer_of l r e }
+fn replied(view: &View<'_>, answer: &Answer<Clock>) -> Answer<Reply>
+    ensures { (l : ModelLimits) (r : ModelReplica) (e : ModelEvent) → SeenValid l r view.now → readable e ≡ true → is_in_range l e ≡ true → Ok answer.now ≡ code_answer l r e → says_in l.replicas (Ok result) ≡ answer_of l r e }
 {
     match answer {
         Answer::Made { put } => Answer::Made { put: *put },
         Answer::Came => Answer::Came,
         Answer::Reply { to } => Answer::Reply {
-            to: reply(replica, to),
+            to: reply(view, to),
         },
         Answer::Value { put } => Answer::Value { put: *put },
         Answer::Clock { clock } => Answer::Clock { clock: *clock },
@@ -52,10 +52,10 @@ fn act(mem: &mut [u64], at: Place, event: &Checked) -> Result<Answer<Reply>, Rea
     ensures does { (l : ModelLimits) (r : ModelReplica) (e : ModelEvent) → Holds l r mem.old → Laid l r.delivery.me at → AllSupported l → Comes l e event.now → Holds l (after l r e) mem.new }
     ensures says { (l : ModelLimits) (r : ModelReplica) (e : ModelEvent) → Holds l r mem.old → Laid l r.delivery.me at → AllSupported l → Comes l e event.now → says_in l.replicas result ≡ answer_of l r e }
 {
-    let mut replica = Replica { mem, at };
-    let answer = answer_to(&replica, event)?;
-    let said = replied(&replica, &answer);
-    apply(&mut replica, event, &answer);
+    let view = View { mem, at };
+    let answer = answer_to(&view, event)?;
+    let said = replied(&view, &answer);
+    apply_accepted(&mut Replica { mem, at }, event, &answer);
     Ok(said)
 }
 

@@ -18,7 +18,7 @@ returns-in-Made c = record {
       let d = r.delivery in
       let room = room_of l r b (passed l r (put b) y.0).has_log_room in
       let same : c.in-Made.put ≡ code_put (stamped b d) = cc in
-      done_as l r (put b) _ y.0 (c.take_own.ensures.does l r (stamped b d) h (stamped_sound l r b h.holds.valid.fits bytes good room.1) (own_ready b d) refl room.0 same);
+      done_as l r (put b) c.take_own.new.replica y.0 (c.take_own.ensures.does l r (stamped b d) h (stamped_sound l r b h.holds.valid.fits bytes good room.1) (own_ready b d) refl room.0 same);
 }
 
 pub returns-in_default : goal.returns-in_default

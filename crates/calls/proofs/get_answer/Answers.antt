@@ -1,4 +1,4 @@
-use Rattle.std.proofs.Common.{ap}
+use Rattle.std.proofs.Common.{ap, rules}
 use Rattle.model.specs.Replica.{get}
 use Rattle.logs.proofs.Changes.{fitted}
 use Rattle.calls.specs.declared.Answer.TheVariants.{Value}
@@ -6,4 +6,4 @@ use Rattle.calls.proofs.Events.{accepted_as, gets}
 use Rattle.calls.proofs.get_answer.Goals as goal
 
 pub returns : goal.returns
-returns c = λ l r k all b. accepted_as l r (get c.args.key) _ (ap Value (c.value_at.ensures l r (fitted l r c.args.replica.now.mem.now k.holds) b)) (gets l r all c.args.key b)
+returns c = λ l r k all b. accepted_as l r (get c.args.key) _ (ap Value (let there = c.value_at-put.ensures l r (fitted l r c.args.view.now.mem.now k.holds) b in search (rules, there))) (gets l r all c.args.key b)

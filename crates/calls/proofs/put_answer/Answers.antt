@@ -2,7 +2,7 @@ use Rattle.std.proofs.lemmas.Result.{err_from_is_err_and}
 use Rattle.std.proofs.Common.{refl, ap}
 use Rattle.model.specs.Put.{text}
 use Rattle.model.specs.Replica.{place, put}
-use Rattle.logs.proofs.Changes.{stands}
+use Rattle.logs.proofs.Changes.{fitted}
 use Rattle.calls.specs.declared.Answer.TheVariants.{Made}
 use Rattle.calls.proofs.Events.{accepted_as, puts_made, puts_refused, refused_as}
 use Rattle.calls.proofs.put_answer.Goals as goal
@@ -17,4 +17,4 @@ returns-in_err-own_room c = let p = err_from_is_err_and c.from_residual.result c
 pub returns : goal.returns
 returns c = λ l r v k all t g.
     let b = text c.args.key v in
-    accepted_as l r (put b) _ (ap Made (c.stamp.ensures l r v (stands l r c.args.replica.now k) t)) (puts_made l r all b g (c.in_ok-own_room.ensures l r b k))
+    accepted_as l r (put b) _ (ap Made (c.stamp.ensures l r v (fitted l r c.args.view.now.mem.now k.holds) k.laid.me t)) (puts_made l r all b g (c.in_ok-own_room.ensures l r b k))

@@ -6,4 +6,4 @@ use Rattle.calls.proofs.Events.{accepted_as, tells}
 use Rattle.calls.proofs.tell_answer.Goals as goal
 
 pub returns : goal.returns
-returns c = λ l r k all. accepted_as l r tell _ (ap Clock (c.clock_of.ensures l r (fitted l r c.args.replica.now.mem.now k.holds))) (tells l r all)
+returns c = λ l r k all. accepted_as l r tell _ (ap Clock (c.clock_of.ensures l r (fitted l r c.args.view.now.mem.now k.holds))) (tells l r all)

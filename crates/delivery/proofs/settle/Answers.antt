@@ -4,7 +4,7 @@ use Rattle.model.specs.Replica.{moved}
 use Rattle.model.specs.Delivery.{settle}
 use Rattle.memory.specs.State.{with_waiting}
 use Rattle.logs.specs.State.{Held}
-use Rattle.logs.proofs.Changes.{stands, holds}
+use Rattle.logs.proofs.Changes.{stands_in, holds}
 use Rattle.delivery.proofs.Takes.{shaped_cleaned}
 use Rattle.delivery.proofs.Settled.{settled_empty}
 use Rattle.delivery.proofs.settle.Goals as goal
@@ -16,8 +16,8 @@ returns-clause-does c =
     let x = settle l.waiting_most m in
     let r = with_waiting u.all (moved x s) in
     let P : List (Put Body) → Type 0 = λ ws. Held l (with_waiting ws (moved x s)) c.clean.new.replica in
-    let t = c.clean.ensures.does l r (stands l r _ u.held) in
+    let t = c.clean.ensures.does l r (stands_in l r _ _ u.held) in
     subst P u.rest (record { holds = holds l r _ _ _ u.held.holds (shaped_cleaned l r u.held.holds.valid.shaped) t.fitted; laid = t.laid })
 
 pub returns-then-waiting-eq0-clause-does : goal.returns-then-waiting-eq0-clause-does
-returns-then-waiting-eq0-clause-does c = λ l m s u. let r = with_waiting u.all (moved m s) in settled_empty l m s _ u (sym (c.waiting.ensures.count l r (stands l r _ u.held)) ∙ c.if-waiting-eq0.true)
+returns-then-waiting-eq0-clause-does c = λ l m s u. let r = with_waiting u.all (moved m s) in settled_empty l m s _ u (sym (c.waiting.ensures.count l r (stands_in l r _ _ u.held)) ∙ c.if-waiting-eq0.true)

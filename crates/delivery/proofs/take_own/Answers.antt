@@ -6,7 +6,7 @@ use Rattle.model.specs.Replica.{Replica}
 use Rattle.memory.specs.Valid.{Shaped}
 use Rattle.memory.specs.State.{with_clock, with_log, with_waiting, with_store}
 use Rattle.logs.specs.State.{Fitted, Held}
-use Rattle.logs.proofs.Changes.{fitted, holds, stands, laid_still}
+use Rattle.logs.proofs.Changes.{fitted, holds, stands_in, laid_still}
 use Rattle.delivery.specs.Steps.{took}
 use Rattle.delivery.proofs.Takes.{next_small, shaped_own, took_own, took_moves, shaped_cleaned}
 use Rattle.delivery.proofs.take_own.Goals as goal
@@ -30,6 +30,6 @@ returns-clause-does c =
     let v₃ = subst Q (sym own) (shaped_own l r q h.holds.valid.fits h.holds.valid.shaped own n lt) in
     let h₄ = subst R (took_own r q own) (c.follow.ensures.does l r₃ (record { holds = holds l r r₃ _ _ h.holds v₃ s₃.fitted; laid = s₃.laid })) in
     let r₄ = with_waiting d.waiting (took q r) in
-    let s₅ = c.clean.ensures.does l r₄ (stands l r₄ _ h₄) in
+    let s₅ = c.clean.ensures.does l r₄ (stands_in l r₄ _ _ h₄) in
     let Z : Replica → Type 0 = λ x. Held l x c.clean.new.replica in
     subst Z (took_moves r q) (record { holds = holds l r _ _ _ h.holds (shaped_cleaned l r₄ h₄.holds.valid.shaped) s₅.fitted; laid = s₅.laid })

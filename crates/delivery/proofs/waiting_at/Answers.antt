@@ -15,4 +15,4 @@ returns c =
     λ l r s.
     let n = c.waiting.ensures.count l r s in
     let h : c.args.i < length r.delivery.waiting = omega arith in
-    put_here l r _ s c.args.i h no_put _ c.waiting_slot.ensures _ c.read_slot.ensures ∙ sym (ap code_slot (nth_some r.delivery.waiting c.args.i no_put h))
+    put_here l r _ _ s c.args.i h no_put _ c.waiting_slot.ensures _ c.read_slot.ensures ∙ sym (ap code_slot (nth_some r.delivery.waiting c.args.i no_put h))

@@ -15,4 +15,4 @@ returns c =
     λ l r s.
     let n = c.waiting.ensures.count l r s in
     let h : c.args.i < length r.delivery.waiting = omega arith in
-    head_here l r _ s c.args.i h no_put _ c.waiting_slot.ensures _ c.read_head.ensures ∙ sym (ap code_head (nth_some r.delivery.waiting c.args.i no_put h))
+    head_here l r _ _ s c.args.i h no_put _ c.waiting_slot.ensures _ c.read_head.ensures ∙ sym (ap code_head (nth_some r.delivery.waiting c.args.i no_put h))

@@ -8,6 +8,6 @@ pub returns : goal.returns
 returns c =
     λ l r q d s h ef en.
     let p = get_or r.delivery.waiting c.args.i d in
-    let m = MatchOption-at_some _ _ _ (head_here l r _ s c.args.i h d _ c.waiting_slot-slot.ensures _ c.read_head.ensures) c.is_some_and.ensures in
+    let m = MatchOption-at_some _ _ _ (head_here l r _ _ s c.args.i h d _ c.waiting_slot-slot.ensures _ c.read_head.ensures) c.is_some_and.ensures in
     let b : c.is_some_and.result ≡ (eqb c.args.from p.from && eqb c.args.number (number p)) = search (rules, m) in
     b ∙ (λ i. eqb (ef i) p.from && eqb (en i) (number p))

@@ -15,8 +15,8 @@ returns-in_err-answer c =
 pub returns : goal.returns
 returns c = record {
   does = λ l r e h x all k.
-      let same = c.apply.ensures.same.mem in
-      let done = (c.apply.ensures.does l r e (record { holds = h; laid = x }) k (c.in_ok-answer.ensures l r e (record { holds = h; laid = x }) all k)).holds in
+      let same = c.apply_accepted.ensures.same.mem in
+      let done = (c.apply_accepted.ensures.does l r e (record { holds = h; laid = x }) k (c.in_ok-answer.ensures l r e (record { holds = h; laid = x }) all k)).holds in
       search rules;
   says = λ l r e h x all k. c.replied-said.ensures l r e (record { holds = h; laid = x }) k.carried k.in_range (c.in_ok-answer.ensures l r e (record { holds = h; laid = x }) all k);
 }

@@ -1,30 +1,21 @@
-use Rattle.std.proofs.Common.{Ok, sym, ap, ◌∙◌}
-use Rattle.wire.specs.Bytes.{write_answer, write_puts}
-use Rattle.calls.proofs.Said.{replied_to}
-use Rattle.replies.proofs.Replies.{means}
+use Rattle.std.proofs.Common.{sym, ap, ◌∙◌}
+use Rattle.model.specs.Replica.{refused}
+use Rattle.wire.specs.Bytes.{write_answer}
+use Rattle.calls.proofs.Said.{refused_said}
 use Rattle.replies.proofs.put_answer.Goals as goal
 
-pub returns-in-Made : goal.returns-in-Made
-unfolding write_puts
-returns-in-Made c = let w = c.put_few.ensures in record { bytes = w.bytes; wrote = w.wrote; most = w.most; are = λ l r e h rd g a. means l r e _ h.holds.valid h.laid.replicas rd g _ (ap Ok (sym c.in-Made.is) ∙ a) w.bytes w.are }
+pub returns-in-Ok : goal.returns-in-Ok
+returns-in-Ok c =
+    let w = c.put_accepted.ensures in
+    record { bytes = w.bytes; wrote = w.wrote; most = w.most; are = λ l r e h rd g a. w.are l r e h rd g (sym c.in-Ok.is ∙ a) }
 
-pub returns-in-Came : goal.returns-in-Came
-unfolding write_puts
-returns-in-Came c = let w = c.put_few-in-Came.ensures in record { bytes = w.bytes; wrote = w.wrote; most = w.most; are = λ l r e h rd g a. means l r e _ h.holds.valid h.laid.replicas rd g _ (ap Ok (sym c.in-Came.is) ∙ a) w.bytes w.are }
-
-pub returns-in-Reply : goal.returns-in-Reply
-returns-in-Reply c =
-    let w = c.put_reply.ensures in
+pub returns-in-Err : goal.returns-in-Err
+returns-in-Err c =
+    let w = c.put_refusal.ensures in
+    let f = c.from.ensures in
     record {
       bytes = w.bytes;
       wrote = w.wrote;
       most = w.most;
-      are = λ l r e h rd g a. let to = replied_to l r e c.in-Reply.to (ap Ok (sym c.in-Reply.is) ∙ a) g in w.are l r to.0 h to.1 to.2 ∙ ap write_answer to.3;
+      are = λ l r e h rd g a. w.are ∙ (λ i. write_answer (refused (f.0 i) (f.1 i))) ∙ ap write_answer (refused_said l r e c.in-Err.reason (sym c.in-Err.is ∙ a)).0;
     }
-
-pub returns-in-Value : goal.returns-in-Value
-unfolding write_puts
-returns-in-Value c = let w = c.put_few-in-Value.ensures in record { bytes = w.bytes; wrote = w.wrote; most = w.most; are = λ l r e h rd g a. means l r e _ h.holds.valid h.laid.replicas rd g _ (ap Ok (sym c.in-Value.is) ∙ a) w.bytes w.are }
-
-pub returns-in-Clock : goal.returns-in-Clock
-returns-in-Clock c = let w = c.put_clock.ensures in record { bytes = w.bytes; wrote = w.wrote; most = w.most; are = λ l r e h rd g a. means l r e _ h.holds.valid h.laid.replicas rd g _ (ap Ok (sym c.in-Clock.is) ∙ a) w.bytes w.are }

@@ -5,7 +5,7 @@ use Rattle.model.specs.Delivery.{reply}
 use Rattle.model.specs.Limits.{Limits}
 use Rattle.model.specs.Replica.{Replica}
 use Rattle.puts.specs.Values.{code_clock}
-use Rattle.logs.specs.State.{Held}
+use Rattle.logs.specs.State.{SeenValid}
 use Rattle.wire.specs.Bytes.{write_item}
 use Rattle.calls.specs.Answered.{one_put}
 use Rattle.wire_out.proofs.Overs.{adds_nothing, then_adds}
@@ -34,7 +34,7 @@ loop-i-preserved c =
 pub returns : goal.returns
 returns c =
     let before = c.loop-i.invariant.1 in
-    let whole : (m : Limits) (r : Replica) (k : Clock) → Held m r c.args.replica.now → length k ≡ m.replicas → c.args.clock.now ≡ code_clock k → take c.loop-i.i (reply k r.delivery) ≡ reply k r.delivery =
+    let whole : (m : Limits) (r : Replica) (k : Clock) → SeenValid m r c.args.view.now → length k ≡ m.replicas → c.args.clock.now ≡ code_clock k → take c.loop-i.i (reply k r.delivery) ≡ reply k r.delivery =
     λ m r k h n e.
     elim c.loop-i-test.branch [
       | else-loop-i-test w ↦ reply_whole k r.delivery c.loop-i.i (omega (arith, w.loop-i-test.false))

@@ -4,7 +4,7 @@ use Rattle.model.specs.Delivery.{reply}
 use Rattle.model.specs.Limits.{Limits}
 use Rattle.model.specs.Replica.{Replica}
 use Rattle.puts.specs.Values.{code_clock}
-use Rattle.logs.specs.State.{Held}
+use Rattle.logs.specs.State.{SeenValid}
 use Rattle.wire_out.specs.Written.{Adds}
 use Rattle.replies.specs.Written.{item_most}
 use Rattle.replies.proofs.Replies.{items}
@@ -13,4 +13,4 @@ use Rattle.replies.proofs.put_reply.Given as goal
 abbrev pub invariant-loop-i : goal.invariant-loop-i
 invariant-loop-i l =
     (l.reply.at ≤ 1 + l.i * item_most) × ((b : List ℕ) × Adds l.initial.reply l.reply b
-    × ((m : Limits) (r : Replica) (c : Clock) → Held m r l.replica → length c ≡ m.replicas → l.clock ≡ code_clock c → b ≡ items l.i (reply c r.delivery)))
+    × ((m : Limits) (r : Replica) (c : Clock) → SeenValid m r l.view → length c ≡ m.replicas → l.clock ≡ code_clock c → b ≡ items l.i (reply c r.delivery)))
