@@ -9,7 +9,7 @@ abbrev pub bytes_of : Vec (Vec ℕ Global) Global → List (List ℕ)
 bytes_of v = map vec_items (vec_items v)
 
 -- put number n of replica j, by the puts of j
-there : (pss : List (List (List ℕ))) (j n : ℕ) (d : List ℕ) → 0 < n → n - 1 < length (get_or pss j []) → put_made pss j n ≡ get_or (get_or pss j []) (n - 1) d ∷ []
+pub there : (pss : List (List (List ℕ))) (j n : ℕ) (d : List ℕ) → 0 < n → n - 1 < length (get_or pss j []) → put_made pss j n ≡ get_or (get_or pss j []) (n - 1) d ∷ []
 there pss j zero d z h = absurd (omega arith)
 there pss j (suc n) d z h =
     let k : suc n - 1 ≡ n = omega arith in

@@ -127,8 +127,8 @@ impl<C: Cluster> Play<C> {
     fn deed(&mut self, text: &str, replica: u64, deed: Deed) -> io::Result<()> {
         match deed {
             Deed::Event { event } => {
-                self.event(replica, &event)?;
-                Ok(())
+                let answer = self.cluster.event(replica, &event)?;
+                self.outcome(text, &answer)
             }
             Deed::Bytes { bytes } => {
                 let answer = self.cluster.bytes(replica, bytes.as_slice())?;

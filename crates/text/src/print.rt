@@ -1,10 +1,15 @@
 // Puts, events and answers as text.
 ghost use Rattle.text.specs.Printed.{answer_text, event_text, put_text, puts_text};
-ghost use Rattle.words.specs.Text.{counts_text, value_text};
-ghost use Rattle.std.specs.Prelude.{Some};
+ghost use Rattle.words.specs.Text.{counts_text, hex, value_text};
+ghost use Rattle.std.specs.Prelude.{◌≡◌, ◌<◌, ◌≤◌, Some, length};
+ghost use Rattle.std.specs.Char.{digit_char};
 
 use crate::event::{Answer, Event, Put};
 use std::fmt;
+use std::str::from_utf8;
+
+// So many bytes of a value are printed at once: no value of a replica is longer.
+const CHUNK: usize = 64;
 
 // A space and a number, for each number.
 #[derive(Clone, Copy)]
@@ -52,11 +57,35 @@ impl fmt::Display for ValueText<'_> {
         if self.0.is_empty() {
             return f.write_str("-");
         }
-        for &byte in self.0 {
-            write!(f, "{byte:02x}")?;
+        let mut digits = [0u8; 2 * CHUNK];
+        for chunk in self.0.chunks(CHUNK) {
+            f.write_str(hex_text(chunk, &mut digits))?;
         }
         Ok(())
     }
+}
+
+// A small hexadecimal digit.
+fn digit(d: u8) -> u8
+    requires { d < 16 }
+    ensures { result ≡ digit_char d }
+{
+    if d < 10 { b'0' + d } else { b'a' + (d - 10) }
+}
+
+// Two digits for each byte, which are written to the front of `digits`.
+fn hex_text<'a>(bytes: &[u8], digits: &'a mut [u8; 2 * CHUNK]) -> &'a str
+    requires { length bytes.now ≤ CHUNK }
+    ensures { result.now ≡ hex bytes.now }
+{
+    for (i, &byte) in bytes.iter().enumerate() {
+        digits[2 * i] = digit(byte / 16);
+        digits[2 * i + 1] = digit(byte % 16);
+    }
+    let Ok(text) = from_utf8(&digits[..2 * bytes.len()]) else {
+        unreachable!();
+    };
+    text
 }
 
 impl fmt::Display for PutText<'_> {
